@@ -1,0 +1,4 @@
+// Bytes into lines, a line into its key and its words, words into names and numbers.
+pub mod faults;
+pub mod keys;
+pub mod lines;
