@@ -1,3 +1,5 @@
-pub mod Fronts
 pub mod Found
+pub mod Fronts
 pub mod KeyLaws
+pub mod NameLaws
+pub mod WordLaws

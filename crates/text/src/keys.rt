@@ -1,6 +1,7 @@
 // Knowing a line by its key.
 ghost use mathlib.Core.List.{[], _∷_};
 ghost use mathlib.Core.Path.{_≡_};
+ghost use lib.ListN.{length};
 ghost use Rattle.std.specs.Options.{Cases};
 ghost use Rattle.text.specs.Keys.{key-number, first-of, key-of, line-with, seen, Keyless};
 
@@ -25,6 +26,18 @@ impl Key {
         ensures the_number_of_the_key { λ r. ⌜ r ≡ key-number self ⌝ }
     {
         self as u8
+    }
+
+    // How many bytes its word and the equals sign take.
+    pub fn width(self) -> u8
+        ensures the_length_of_the_word_and_its_equals_sign { λ r. ⌜ r ≡ length (line-with self []) ⌝ }
+    {
+        match self {
+            Key::Protocol | Key::Proposal => 9,
+            Key::Cause => 6,
+            Key::Type | Key::Term | Key::Init | Key::Rule => 5,
+            Key::Var | Key::Set | Key::End | Key::Inv => 4,
+        }
     }
 }
 

@@ -2,3 +2,4 @@
 pub mod faults;
 pub mod keys;
 pub mod lines;
+pub mod words;
