@@ -2,4 +2,5 @@ pub mod Found
 pub mod Fronts
 pub mod KeyLaws
 pub mod NameLaws
+pub mod Splits
 pub mod WordLaws

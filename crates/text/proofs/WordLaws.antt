@@ -12,7 +12,7 @@ use Rattle.std.specs.shelf.Lists.{leading}
 use Rattle.std.specs.declared.result.Result.{Result}
 use Rattle.std.specs.declared.result.Result.the-variants.{Ok, Err}
 use Rattle.text.specs.Faults.{fault}
-use Rattle.text.specs.Words.{WordV, Place, over, end-column, column, word, word-at, word-length, next, no-space}
+use Rattle.text.specs.Words.{WordV, Place, over, end-column, column, word, word-at, word-length, next, no-space, rest-at}
 use Rattle.text.specs.declared.faults.Wrong.the-variants as wrong
 
 module _ (text : List ℕ) (before at n : ℕ) (left : at ≤ length text) (counted : n ≡ leading no-space (take (length text - at) (drop at text))) where
@@ -28,3 +28,9 @@ module _ (text : List ℕ) (before at n : ℕ) (left : at ≤ length text) (coun
   next-here =
       (λ i. record { text = text; before = before; at = at + same-length i + 1 })
       ∙ sym (cond-false (ltb (length text) at) _ _ (le-ltb (length text) at left))
+
+-- what is left of the words
+pub rest-here : (text : List ℕ) (before at : ℕ) → at ≤ length text → Ok (record { bytes = take (length text - at) (drop at text); column = before + at + 1 }) ≡ rest-at (record { text = text; before = before; at = at })
+rest-here text before at left =
+    (λ i. Ok (record { bytes = take-rest text at i; column = before + at + 1 }))
+    ∙ sym (cond-false (ltb (length text) at) _ _ (le-ltb (length text) at left))

@@ -123,6 +123,30 @@ name-at p = bind (word-at p) (λ w. cond (is-name (w .bytes)) (Ok w) (Err (fault
 abbrev pub number-at : Place → Result Number LineFault
 number-at p = bind (word-at p) (λ w. number-or (w .column) (number-of (w .bytes)))
 
+-- All that is left of the line, or the fault that no word is left.
+abbrev pub rest-at : Place → Result WordV LineFault
+rest-at p = cond (over p) (Err (fault wrong.Word (end-column p))) (Ok (record { bytes = drop (p .at) (p .text); column = column p }))
+
+-- One byte more in front of the first word.
+abbrev pub lengthened : ℕ → ℕ → List WordV → List WordV
+lengthened b column [] = record { bytes = b ∷ []; column = column } ∷ []
+lengthened b column (w ∷ ws) = record { bytes = b ∷ w .bytes; column = column } ∷ ws
+
+-- A text's words, all at once: every space ends one word and begins the next. The text begins at `column`.
+abbrev pub words : ℕ → List ℕ → List WordV
+words column [] = record { bytes = []; column = column } ∷ []
+words column (b ∷ text) =
+    cond (eqb b 32) (record { bytes = []; column = column } ∷ words (column + 1) text) (lengthened b column (words (column + 1) text))
+
+-- The words from a place on.
+abbrev pub words-left : Place → List WordV
+words-left p = cond (over p) [] (words (column p) (drop (p .at) (p .text)))
+
+-- All of the words are names; or the fault at the first that is none.
+abbrev pub all-names : List WordV → Result (Unit {0}) LineFault
+all-names [] = Ok tt
+all-names (w ∷ ws) = cond (is-name (w .bytes)) (all-names ws) (Err (fault wrong.Word (w .column)))
+
 -- What the program's values stand for.
 abbrev pub word-seen : Word → WordV
 word-seen w = record { bytes = now (w .bytes); column = w .column }

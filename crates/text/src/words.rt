@@ -3,7 +3,7 @@ ghost use mathlib.Core.Path.{_≡_};
 ghost use Prim.Native.Nat.{_≤_};
 ghost use lib.ListN.{length};
 ghost use Rattle.std.specs.shelf.Lists.{leading};
-ghost use Rattle.text.specs.Words.{place, next, seen, word-at, name-at, number-at, nothing-at, no-space, name-byte, is-name, digit, number-length, number-of, first-place};
+ghost use Rattle.text.specs.Words.{place, next, seen, word-at, name-at, number-at, nothing-at, no-space, name-byte, is-name, digit, number-length, number-of, first-place, over, rest-at, words-left, all-names};
 use crate::faults::LineFault;
 use crate::faults::Wrong;
 use crate::keys::Key;
@@ -185,5 +185,38 @@ impl<'a> Words<'a> {
                 column: self.before as usize + self.at + 1,
             })
         }
+    }
+
+    // Whether the last word was taken.
+    pub fn is_over(&self) -> bool
+        ensures whether_no_word_is_left { λ r. ⌜ r ≡ over (place (now (self .entry))) ⌝ }
+    {
+        self.at > self.text.len()
+    }
+
+    // All that is left of the line, several words as one; or the fault that no word is left.
+    pub fn rest(&self) -> Result<Word<'a>, LineFault>
+        ensures what_is_left_or_that_it_is_missing { λ r. ⌜ seen r ≡ rest-at (place (now (self .entry))) ⌝ }
+    {
+        if self.is_over() {
+            return Err(LineFault {
+                wrong: Wrong::Word,
+                column: self.before as usize + self.text.len() + 1,
+            });
+        }
+        Ok(Word {
+            bytes: &self.text[self.at..],
+            column: self.before as usize + self.at + 1,
+        })
+    }
+
+    // Every word that is left has to be a name.
+    pub fn only_names(mut self) -> Result<(), LineFault>
+        ensures all_are_names_or_the_first_that_is_none { λ r. ⌜ r ≡ all-names (words-left (place (self .entry))) ⌝ }
+    {
+        while !self.is_over() {
+            self.name()?;
+        }
+        Ok(())
     }
 }
