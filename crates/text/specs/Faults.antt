@@ -1,6 +1,11 @@
 -- What can be wrong with a line, by the numbers that a report shows.
 use Prim.Native.Nat.{ℕ}
+use Rattle.std.specs.declared.result.Result.{Result}
+use Rattle.std.specs.declared.result.Result.the-variants.{Ok, Err}
+use Rattle.text.specs.declared.faults.FileFault.{FileFault}
+use Rattle.text.specs.declared.faults.FileFault.the-variants.{TooLong, Line}
 use Rattle.text.specs.declared.faults.LineFault.{LineFault}
+use Rattle.text.specs.declared.faults.Placed.{Placed}
 use Rattle.text.specs.declared.faults.Wrong.{Wrong}
 use Rattle.text.specs.declared.faults.Wrong.the-variants.{Byte, NoLineFeed, Key, Word}
 
@@ -15,6 +20,25 @@ number NoLineFeed = 3
 number Key = 4
 number Word = 5
 
+-- The numbers that a report shows of a file's fault: a file of more than 65,536 bytes is number 1, at line 0 and
+-- column 0; any other fault is that of a line.
+abbrev pub file-number : FileFault → ℕ
+file-number TooLong = 1
+file-number (Line p) = number (p .fault .wrong)
+
+abbrev pub file-line : FileFault → ℕ
+file-line TooLong = 0
+file-line (Line p) = p .line
+
+abbrev pub file-column : FileFault → ℕ
+file-column TooLong = 0
+file-column (Line p) = p .fault .column
+
 -- A fault of this kind at this column; columns count from 1.
 abbrev pub fault : Wrong → ℕ → LineFault
 fault wrong column = record { wrong = wrong; column = column }
+
+-- An answer about a line, with the line's number at its fault.
+abbrev pub placed-at : {A : Type 0} → ℕ → Result A LineFault → Result A Placed
+placed-at line (Ok value) = Ok value
+placed-at line (Err fault) = Err (record { line = line; fault = fault })

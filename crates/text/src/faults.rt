@@ -1,6 +1,7 @@
 // What can be wrong with a line.
 ghost use mathlib.Core.Path.{_≡_};
-ghost use Rattle.text.specs.Faults.{number as number-of};
+ghost use Rattle.text.specs.Faults.{number as number-of, file-number, file-line, file-column, placed-at};
+ghost use Rattle.text.specs.declared.faults.FileFault.the-variants.{Line};
 
 #[derive(Clone, Copy, Debug, PartialEq, Eq)]
 pub enum Wrong {
@@ -33,4 +34,70 @@ impl Wrong {
 pub struct LineFault {
     pub wrong: Wrong,
     pub column: usize,
+}
+
+// A line's own fault with the number of the line.
+#[derive(Clone, Copy, Debug, PartialEq, Eq)]
+pub struct Placed {
+    pub line: usize,
+    pub fault: LineFault,
+}
+
+// What is wrong with a file.
+#[derive(Clone, Copy, Debug, PartialEq, Eq)]
+pub enum FileFault {
+    // It has more than 65,536 bytes.
+    TooLong,
+    // A line is at fault.
+    Line(Placed),
+}
+
+impl FileFault {
+    // The number under which a report shows it.
+    pub fn number(self) -> u8
+        ensures the_number_of_the_fault { λ r. ⌜ r ≡ file-number self ⌝ }
+    {
+        match self {
+            FileFault::TooLong => 1,
+            FileFault::Line(placed) => placed.fault.wrong.number(),
+        }
+    }
+
+    // The line that a report shows; 0 for the whole file.
+    pub fn line(self) -> usize
+        ensures the_line_of_the_fault { λ r. ⌜ r ≡ file-line self ⌝ }
+    {
+        match self {
+            FileFault::TooLong => 0,
+            FileFault::Line(placed) => placed.line,
+        }
+    }
+
+    // The column that a report shows; 0 for the whole file.
+    pub fn column(self) -> usize
+        ensures the_column_of_the_fault { λ r. ⌜ r ≡ file-column self ⌝ }
+    {
+        match self {
+            FileFault::TooLong => 0,
+            FileFault::Line(placed) => placed.fault.column,
+        }
+    }
+}
+
+pub impl From<Placed> for FileFault as FileFaultFromPlaced {
+    ghost converts = { λ placed r. r ≡ Line placed };
+
+    fn from(value: Placed) -> FileFault {
+        FileFault::Line(value)
+    }
+}
+
+// An answer about a line, with the number of that line at its fault.
+pub fn at_line<T>(line: usize, answer: Result<T, LineFault>) -> Result<T, Placed>
+    ensures the_answer_or_its_fault_with_the_line { λ r. ⌜ r ≡ placed-at line answer ⌝ }
+{
+    match answer {
+        Ok(value) => Ok(value),
+        Err(fault) => Err(Placed { line, fault }),
+    }
 }
