@@ -3,13 +3,14 @@ ghost use mathlib.Core.Path.{_≡_};
 ghost use Prim.Native.Nat.{_≤_};
 ghost use lib.ListN.{length};
 ghost use Rattle.std.specs.shelf.Lists.{leading};
+ghost use Rattle.std.specs.shelf.Text.{sameBytes};
 ghost use Rattle.text.specs.Words.{place, next, seen, word-at, name-at, number-at, nothing-at, no-space, name-byte, is-name, digit, number-length, number-of, first-place, over, rest-at, words-left, all-names};
 use crate::faults::LineFault;
 use crate::faults::Wrong;
 use crate::keys::Key;
 
 // A word: its bytes, a part of the file, and the column where it begins.
-#[derive(Clone, Copy, Debug)]
+#[derive(Clone, Copy)]
 pub struct Word<'a> {
     pub bytes: &'a [u8],
     pub column: usize,
@@ -24,7 +25,7 @@ pub struct Number {
 
 // A place in the words of a line: `before` bytes of the line stand in front of `text`, and the next word begins
 // behind the first `at` bytes of `text`.
-#[derive(Clone, Copy, Debug)]
+#[derive(Clone, Copy)]
 pub struct Words<'a> {
     text: &'a [u8],
     before: u8,
@@ -46,6 +47,13 @@ fn word_run(text: &[u8]) -> usize
         n += 1;
     }
     n
+}
+
+// Whether the bytes are those of this word.
+pub fn is_word(bytes: &[u8], word: &[u8]) -> bool
+    ensures whether_they_are_the_same { λ r. ⌜ r ≡ sameBytes (now (bytes .entry)) (now (word .entry)) ⌝ }
+{
+    bytes == word
 }
 
 fn is_name_byte(byte: u8) -> bool
