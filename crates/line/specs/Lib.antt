@@ -1,1 +1,4 @@
+pub mod Forms
+pub mod Lines
 pub mod Operators
+pub mod Reading
