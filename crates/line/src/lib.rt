@@ -1,4 +1,4 @@
 // One line of a protocol or proposal file, read: its key, its words, what it says.
 pub mod lines;
 pub mod operators;
-mod reading;
+pub mod reading;

@@ -1,3 +1,4 @@
+pub mod Cuts
 pub mod Found
 pub mod Fronts
 pub mod KeyLaws
