@@ -1,10 +1,11 @@
 -- The account of a file: how many lines of each kind it has, up to its end or to its first fault.
 use mathlib.Core.Bool.{Bool, true, false, cond}
-use mathlib.Core.List.{List, [], _∷_}
+use mathlib.Core.List.{List, [], _∷_, _++_}
 use mathlib.Core.Path.{_≡_}
 use Prim.Native.Nat.{ℕ, _+_, _^_, _≤_, _<_}
 use lib.Dec.{ltb, eqb}
 use lib.ListN.{length, getD, set, replicate}
+use Rattle.std.specs.Joined.{joined}
 use Rattle.std.specs.Options.{mapped}
 use Rattle.std.specs.Results.{errPart}
 use Rattle.std.specs.declared.option.Option.{Option}
@@ -64,6 +65,16 @@ account file text =
 pub data CutUp : List ℕ → List (List ℕ) → Type 0 where
   done : CutUp [] []
   more : {text line rest : List ℕ} {lines : List (List ℕ)} → cut text ≡ Ok (line, rest) → CutUp rest lines → CutUp text (line ∷ lines)
+
+-- A text is just its lines, each closed by a line feed; cut one by one it has the same lines; all of them were counted.
+pub record Whole (text : List ℕ) (tally : Tally) : Type 0 where
+  pub put-together : joined (λ line. line ++ 10 ∷ []) (split text .lines) ≡ text
+  pub cut-up : CutUp text (split text .lines)
+  pub all-counted : tally .lines ≡ length (split text .lines)
+
+-- However a text is cut one by one, its lines are those that it has cut all at once.
+abbrev pub SameLines : List ℕ → Type 0
+SameLines text = (lines : List (List ℕ)) → CutUp text lines → lines ≡ split text .lines
 
 -- No count passes the number of lines, which leaves room for one more.
 abbrev pub Small : Tally → Type 0

@@ -5,8 +5,9 @@ ghost use lib.Dec.{eqb};
 ghost use Prim.Native.Nat.{ℕ, _+_, _≤_, _<_, _^_};
 ghost use lib.ListN.{length, getD};
 ghost use Rattle.std.specs.Vec.{refused};
-ghost use Rattle.account.specs.Accounts.{nothing, counted, taken, answered, outcome, gone-through, Small};
-ghost use Rattle.std.specs.declared.result.Result.the-variants.{Ok, Err};
+ghost use Rattle.account.specs.Accounts.{nothing, counted, taken, answered, outcome, gone-through, account as the-account, Whole, SameLines, Small};
+ghost use Rattle.text.specs.Keys.{key-number};
+ghost use Rattle.std.specs.declared.option.Option.the-variants.{None};
 use line::lines::File;
 use line::reading::read_line;
 use line::reading::recognise;
@@ -95,4 +96,30 @@ fn walk(file: File, bytes: &[u8], tally: &mut Tally) -> Result<(), Placed>
         number += 1;
     }
     Ok(())
+}
+
+// The account of a file.
+pub fn survey(file: File, bytes: &[u8]) -> Account
+    ensures the_account_of_the_file { λ r. ⌜ r ≡ the-account file (now (bytes .entry)) ⌝ }
+    ensures read_to_its_end_it_is_its_lines_put_together { λ r. ⌜ (r .fault ≡ None → Whole (now (bytes .entry)) (r .tally)) ⌝ }
+    ensures cut_one_by_one_it_has_the_same_lines { λ r. ⌜ SameLines (now (bytes .entry)) ⌝ }
+{
+    let mut tally = Tally::new();
+    if bytes.len() > MOST_BYTES {
+        return Account { bytes: bytes.len(), tally, fault: Some(FileFault::TooLong) };
+    }
+    let fault = match walk(file, bytes, &mut tally) {
+        Ok(()) => None,
+        Err(placed) => Some(FileFault::Line(placed)),
+    };
+    Account { bytes: bytes.len(), tally, fault }
+}
+
+impl Account {
+    // How many lines of this key were read.
+    pub fn lines_of(&self, key: Key) -> usize
+        ensures as_many_as_were_counted { λ r. ⌜ r ≡ getD (now (self .entry) .tally .kinds) (key-number key) 0 ⌝ }
+    {
+        self.tally.kinds[key.number() as usize]
+    }
 }
