@@ -46,17 +46,18 @@ refused-at (Err y) e P is holds = holds
 -- one line more keeps the tally small
 pub small-counted : (key : Key) (tally : Tally) → Small tally → tally .lines < 2 ^ 62 → Small (counted key tally)
 small-counted key tally small room =
-    let i = key-number key in
-    (omega arith,
+    let i = key-number key in (
+      omega arith,
       λ k.
           ⊎-elim
           (λ here.
-              ⊎-elim
-              (λ inside. omega (arith, small .1 i, ap (λ j. getD (set (tally .kinds) i (getD (tally .kinds) i 0 + 1)) j 0) here, getD-set-same (tally .kinds) i (getD (tally .kinds) i 0 + 1) 0 inside))
-              (λ past. omega (arith, small .1 k, ap (λ xs. getD xs k 0) (set-past (tally .kinds) i (getD (tally .kinds) i 0 + 1) past)))
-              (cases-lt i (length (tally .kinds))))
+          ⊎-elim
+          (λ inside. omega (arith, small .1 i, ap (λ j. getD (set (tally .kinds) i (getD (tally .kinds) i 0 + 1)) j 0) here, getD-set-same (tally .kinds) i (getD (tally .kinds) i 0 + 1) 0 inside))
+          (λ past. omega (arith, small .1 k, ap (λ xs. getD xs k 0) (set-past (tally .kinds) i (getD (tally .kinds) i 0 + 1) past)))
+          (cases-lt i (length (tally .kinds))))
           (λ other. omega (arith, small .1 k, getD-set-other (tally .kinds) i k (getD (tally .kinds) i 0 + 1) 0 other))
-          (cases-eq k i))
+          (cases-eq k i),
+    )
 
 module _ (file : File) (tally made : Tally) where
   by-words : (r : Result LineV LineFault) → bind r (λ read. Ok (counted (key-of-line read) tally)) ≡ Ok made → (key : Key) × (made ≡ counted key tally)

@@ -88,13 +88,13 @@ module _ (file : File) where
   to-the-end [] tail state number none =
       ⊎-elim
       (λ ended.
-          record {
-            short = eqb-true (length tail) 0 (and-parts (state .ended) (eqb (length tail) 0) ended .1);
-            fine = tt;
-            all = ap (λ (o : Outcome Tally). o .state .lines) (cond-true (state .ended && eqb (length tail) 0) (record { state = state; fault = None }) _ ended) ∙ sym (add-zero (state .lines));
-          })
+      record {
+        short = eqb-true (length tail) 0 (and-parts (state .ended) (eqb (length tail) 0) ended .1);
+        fine = tt;
+        all = ap (λ (o : Outcome Tally). o .state .lines) (cond-true (state .ended && eqb (length tail) 0) (record { state = state; fault = None }) _ ended) ∙ sym (add-zero (state .lines));
+      })
       (λ not-yet.
-          absurd (some≢none (sym (ap (λ (o : Outcome Tally). o .fault) (cond-false (state .ended && eqb (length tail) 0) _ (record { state = state; fault = Some (record { line = number; fault = tail-fault tail }) }) not-yet)) ∙ none)))
+      absurd (some≢none (sym (ap (λ (o : Outcome Tally). o .fault) (cond-false (state .ended && eqb (length tail) 0) _ (record { state = state; fault = Some (record { line = number; fault = tail-fault tail }) }) not-yet)) ∙ none)))
       (cases-bool (state .ended && eqb (length tail) 0))
   to-the-end (line ∷ lines) tail state number none =
       one-more line lines tail state number (λ made. to-the-end lines tail made (number + 1)) (byte-fault line) (taken file state line) refl refl none

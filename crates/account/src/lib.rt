@@ -45,7 +45,11 @@ impl Tally {
     fn new() -> Tally
         ensures nothing_is_counted { λ r. ⌜ r ≡ nothing ⌝ }
     {
-        Tally { lines: 0, kinds: [0; KEYS], ended: false }
+        Tally {
+            lines: 0,
+            kinds: [0; KEYS],
+            ended: false,
+        }
     }
 
     fn count(&mut self, key: Key)
@@ -66,7 +70,10 @@ impl Tally {
     {
         let (key, rest) = recognise(file, line)?;
         if self.ended {
-            return Err(LineFault { wrong: Wrong::Key, column: 1 });
+            return Err(LineFault {
+                wrong: Wrong::Key,
+                column: 1,
+            });
         }
         let read = read_line(file, key, rest)?;
         self.count(read.key());
@@ -106,13 +113,21 @@ pub fn survey(file: File, bytes: &[u8]) -> Account
 {
     let mut tally = Tally::new();
     if bytes.len() > MOST_BYTES {
-        return Account { bytes: bytes.len(), tally, fault: Some(FileFault::TooLong) };
+        return Account {
+            bytes: bytes.len(),
+            tally,
+            fault: Some(FileFault::TooLong),
+        };
     }
     let fault = match walk(file, bytes, &mut tally) {
         Ok(()) => None,
         Err(placed) => Some(FileFault::Line(placed)),
     };
-    Account { bytes: bytes.len(), tally, fault }
+    Account {
+        bytes: bytes.len(),
+        tally,
+        fault,
+    }
 }
 
 impl Account {

@@ -42,7 +42,7 @@ returns-in-Break-at-line c =
     let told = err-from-errBy (c .from-residual-in-Break-at-line .result) (c .from-residual-in-Break-at-line .ensures .1) in
     let found = placed-err (c .loop-rest .number) (c .take .result) (c .in-Break-at-line .field-0 .0) (c .in-Break-at-line .ensures tt .the-answer-or-its-fault-with-the-line) in
     let fails : taken (c .args .file) (c .loop-rest .tally) (c .in-Continue-line .line .now) ≡ Err (found .0) =
-            sym (c .take .ensures .what-is-made-of-the-line) ∙ ap (λ r. answered r (c .take .last .self)) (found .1) in
+    sym (c .take .ensures .what-is-made-of-the-line) ∙ ap (λ r. answered r (c .take .last .self)) (found .1) in
     let same : c .take .last .self ≡ c .loop-rest .tally = refused-at (c .take .result) (found .0) _ (found .1) (c .take .ensures .a-fault-changes-nothing) in
     record {
       every-line-in-turn =
