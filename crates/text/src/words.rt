@@ -4,10 +4,15 @@ ghost use Prim.Native.Nat.{_≤_};
 ghost use lib.ListN.{length};
 ghost use Rattle.std.specs.shelf.Lists.{leading};
 ghost use Rattle.std.specs.shelf.Text.{sameBytes};
-ghost use Rattle.text.specs.Words.{place, next, seen, word-at, name-at, number-at, nothing-at, no-space, name-byte, is-name, digit, number-length, number-of, first-place, over, rest-at, words-left, all-names};
+ghost use Rattle.text.specs.Faults.{fault};
+ghost use Rattle.text.specs.declared.faults.Wrong.the-variants as wrong;
+ghost use Rattle.text.specs.Words.{place, next, seen, word-at, name-at, number-at, nothing-at, no-space, name-byte, is-name, digit, number-length, number-of, first-place, over, end-column, rest-at, words-left, all-names};
 use crate::faults::LineFault;
 use crate::faults::Wrong;
 use crate::keys::Key;
+
+// A name has at most this many bytes.
+const LONGEST_NAME: usize = 16;
 
 // A word: its bytes, a part of the file, and the column where it begins.
 #[derive(Clone, Copy)]
@@ -69,7 +74,7 @@ fn is_name_byte(byte: u8) -> bool
 pub fn is_name(bytes: &[u8]) -> bool
     ensures whether_it_is_a_name { λ r. ⌜ r ≡ is-name (now (bytes .entry)) ⌝ }
 {
-    if bytes.is_empty() || bytes.len() > 16 {
+    if bytes.is_empty() || bytes.len() > LONGEST_NAME {
         return false;
     }
     for byte in bytes {
@@ -114,6 +119,16 @@ pub fn parse_number(bytes: &[u8]) -> Option<u16>
     Some(value)
 }
 
+// The fault that a word is missing, extra, empty or misformed.
+fn bad_word(column: usize) -> LineFault
+    ensures a_word_at_fault { λ r. ⌜ r ≡ fault wrong.Word column ⌝ }
+{
+    LineFault {
+        wrong: Wrong::Word,
+        column,
+    }
+}
+
 impl<'a> Words<'a> {
     // The words after a line's key.
     pub fn after(key: Key, rest: &'a [u8]) -> Words<'a>
@@ -126,16 +141,27 @@ impl<'a> Words<'a> {
         }
     }
 
+    // Whether the last word was taken.
+    fn is_over(&self) -> bool
+        ensures whether_no_word_is_left { λ r. ⌜ r ≡ over (place (now (self .entry))) ⌝ }
+    {
+        self.at > self.text.len()
+    }
+
+    // The column just behind the line.
+    fn end_column(&self) -> usize
+        ensures just_behind_the_line { λ r. ⌜ r ≡ end-column (place (now (self .entry))) ⌝ }
+    {
+        self.before as usize + self.text.len() + 1
+    }
+
     // The next word, or the fault that it is missing.
     pub fn next_word(&mut self) -> Result<Word<'a>, LineFault>
         ensures the_word_or_that_it_is_missing { λ r. ⌜ seen r ≡ word-at (place (now (self .entry))) ⌝ }
         ensures where_the_next_begins { λ r. ⌜ place (now (self .exit)) ≡ next (place (now (self .entry))) ⌝ }
     {
         if self.at > self.text.len() {
-            return Err(LineFault {
-                wrong: Wrong::Word,
-                column: self.before as usize + self.text.len() + 1,
-            });
+            return Err(bad_word(self.end_column()));
         }
         let left = &self.text[self.at..];
         let n = word_run(left);
@@ -156,10 +182,7 @@ impl<'a> Words<'a> {
         if is_name(word.bytes) {
             Ok(word)
         } else {
-            Err(LineFault {
-                wrong: Wrong::Word,
-                column: word.column,
-            })
+            Err(bad_word(word.column))
         }
     }
 
@@ -174,10 +197,7 @@ impl<'a> Words<'a> {
                 value,
                 column: word.column,
             }),
-            None => Err(LineFault {
-                wrong: Wrong::Word,
-                column: word.column,
-            }),
+            None => Err(bad_word(word.column)),
         }
     }
 
@@ -185,21 +205,11 @@ impl<'a> Words<'a> {
     pub fn nothing_more(&self) -> Result<(), LineFault>
         ensures no_word_is_left_or_the_fault { λ r. ⌜ r ≡ nothing-at (place (now (self .entry))) ⌝ }
     {
-        if self.at > self.text.len() {
+        if self.is_over() {
             Ok(())
         } else {
-            Err(LineFault {
-                wrong: Wrong::Word,
-                column: self.before as usize + self.at + 1,
-            })
+            Err(bad_word(self.before as usize + self.at + 1))
         }
-    }
-
-    // Whether the last word was taken.
-    pub fn is_over(&self) -> bool
-        ensures whether_no_word_is_left { λ r. ⌜ r ≡ over (place (now (self .entry))) ⌝ }
-    {
-        self.at > self.text.len()
     }
 
     // All that is left of the line, several words as one; or the fault that no word is left.
@@ -207,14 +217,12 @@ impl<'a> Words<'a> {
         ensures what_is_left_or_that_it_is_missing { λ r. ⌜ seen r ≡ rest-at (place (now (self .entry))) ⌝ }
     {
         if self.is_over() {
-            return Err(LineFault {
-                wrong: Wrong::Word,
-                column: self.before as usize + self.text.len() + 1,
-            });
+            return Err(bad_word(self.end_column()));
         }
+        let column = self.before as usize + self.at + 1;
         Ok(Word {
             bytes: &self.text[self.at..],
-            column: self.before as usize + self.at + 1,
+            column,
         })
     }
 

@@ -15,4 +15,4 @@ loop-byte-again c = every-more name-byte _ _ (c .loop-byte .inv) (c .loop-byte-t
 pub returns : need.returns
 returns c =
     let all = every-done name-byte _ _ (c .loop-byte .inv) (c .loop-byte-test .left) in
-    record { whether-it-is-a-name = a-name (c .args .bytes .now) (c .if-is-empty .ensures tt) (c .if-bytes-gt16 .left) all }
+    record { whether-it-is-a-name = a-name (c .args .bytes .now) (c .if-is-empty .ensures tt) (c .if-bytes-gt-LONGEST-NAME .left) all }
