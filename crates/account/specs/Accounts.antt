@@ -55,7 +55,8 @@ taken file tally line =
 abbrev pub gone-through : File → List ℕ → Outcome Tally
 gone-through file text = walk-through (taken file) (λ tally. tally .ended) nothing 1 (split text)
 
--- The account of a file. A file of more than 65,536 bytes is refused whole.
+-- The account of a file: of a refused one too it has the lines up to the fault. A file of more than 65,536 bytes is
+-- refused whole.
 abbrev pub account : File → List ℕ → Account
 account file text =
     cond (ltb 65536 (length text)) (record { bytes = length text; tally = nothing; fault = Some TooLong })

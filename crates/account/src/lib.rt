@@ -12,6 +12,7 @@ use line::lines::File;
 use line::reading::read_line;
 use line::reading::recognise;
 use text::faults::FileFault;
+use text::faults::FileFaultFromPlaced;
 use text::faults::LineFault;
 use text::faults::Placed;
 use text::faults::Wrong;
@@ -108,7 +109,7 @@ fn walk(file: File, bytes: &[u8], tally: &mut Tally) -> Result<(), Placed>
 // The account of a file.
 pub fn survey(file: File, bytes: &[u8]) -> Account
     ensures the_account_of_the_file { λ r. ⌜ r ≡ the-account file (now (bytes .entry)) ⌝ }
-    ensures read_to_its_end_it_is_its_lines_put_together { λ r. ⌜ (r .fault ≡ None → Whole (now (bytes .entry)) (r .tally)) ⌝ }
+    ensures read_to_its_end_it_is_its_lines_all_counted { λ r. ⌜ (r .fault ≡ None → Whole (now (bytes .entry)) (r .tally)) ⌝ }
     ensures cut_one_by_one_it_has_the_same_lines { λ r. ⌜ SameLines (now (bytes .entry)) ⌝ }
 {
     let mut tally = Tally::new();
@@ -121,7 +122,7 @@ pub fn survey(file: File, bytes: &[u8]) -> Account
     }
     let fault = match walk(file, bytes, &mut tally) {
         Ok(()) => None,
-        Err(placed) => Some(FileFault::Line(placed)),
+        Err(placed) => Some(FileFault::from(placed)),
     };
     Account {
         bytes: bytes.len(),

@@ -7,7 +7,7 @@ use Rattle.line.specs.declared.lines.Form.the-variants as code
 use Rattle.line.specs.declared.lines.Kind.{Kind}
 use Rattle.line.specs.declared.lines.Kind.the-variants as kind
 
--- The ten forms of a term. Numbers are those of earlier terms.
+-- The ten forms of a term. Numbers stand for earlier terms.
 pub data FormV : Type 0 where
   Var : WordV → FormV
   Val : WordV → WordV → FormV
@@ -20,7 +20,8 @@ pub data FormV : Type 0 where
   Imp : Number → Number → FormV
   Ite : Number → Number → Number → FormV
 
--- Why a rule keeps an invariant: by the guard alone (1); nothing changes (2); by the guard and a partner (3).
+-- Why a rule keeps an invariant: the guard alone ensures it (1); the assignments, put into its formula, leave that
+-- formula as it is (2); the guard and a partner together ensure it (3).
 pub data KindV : Type 0 where
   Guard : KindV
   Unchanged : KindV

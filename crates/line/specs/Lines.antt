@@ -29,7 +29,7 @@ pub data LineV : Type 0 where
   Inv : WordV → Number → LineV
   Cause : WordV → WordV → KindV → LineV
 
--- The key of a line; its number is the line's number.
+-- The key of each kind of line, whose number is the kind's.
 abbrev pub key-of-line : LineV → Key
 key-of-line (Protocol name) = key.Protocol
 key-of-line («Type» name values) = key.«Type»
@@ -68,14 +68,10 @@ belongs file.Proposal key.Proposal = true
 belongs file.Proposal key.Inv = true
 belongs file.Proposal key.Cause = true
 
--- The word that stands after `end=` in each file, and the file's number.
+-- The word that stands after `end=` in each file.
 abbrev pub ending : File → List ℕ
 ending file.Protocol = codes "protocol"
 ending file.Proposal = codes "proposal"
-
-abbrev pub file-number : File → ℕ
-file-number file.Protocol = 0
-file-number file.Proposal = 1
 
 -- What the program's values stand for.
 abbrev pub line-seen : Line → LineV

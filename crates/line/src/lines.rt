@@ -1,7 +1,7 @@
 // The kinds of lines, each with its words.
 ghost use mathlib.Core.Path.{_≡_};
 ghost use Rattle.line.specs.Forms.{form-seen, kind-seen, kind-number};
-ghost use Rattle.line.specs.Lines.{belongs, ending, file-number, line-seen, key-of-line};
+ghost use Rattle.line.specs.Lines.{belongs, ending, line-seen, key-of-line};
 use text::keys::Key;
 use text::words::Number;
 use text::words::Word;
@@ -14,13 +14,6 @@ pub enum File {
 }
 
 impl File {
-    // Its number.
-    pub fn number(self) -> u8
-        ensures the_number_of_the_file { λ r. ⌜ r ≡ file-number self ⌝ }
-    {
-        self as u8
-    }
-
     // Whether it has lines of this key.
     pub fn has(self, key: Key) -> bool
         ensures whether_the_key_belongs_there { λ r. ⌜ r ≡ belongs self key ⌝ }
@@ -86,11 +79,11 @@ pub enum Form<'a> {
 // Why a rule keeps an invariant.
 #[derive(Clone, Copy)]
 pub enum Kind<'a> {
-    // The guard alone makes the precondition true.
+    // The guard alone ensures that the invariant is true after the assignments.
     Guard,
-    // The precondition is the invariant itself.
+    // The assignments, put into the invariant's formula, leave that formula as it is.
     Unchanged,
-    // The guard and this invariant make the precondition true.
+    // The guard and this invariant together ensure it.
     Partner { name: Word<'a> },
 }
 
@@ -152,7 +145,7 @@ impl Kind<'_> {
 }
 
 impl Line<'_> {
-    // Its key, whose number is the line's.
+    // Its key, whose number is that of its kind.
     pub fn key(&self) -> Key
         ensures the_key_of_the_line { λ r. ⌜ r ≡ key-of-line (line-seen (now (self .entry))) ⌝ }
     {

@@ -178,7 +178,7 @@ fn read_cause<'a>(mut words: Words<'a>) -> Result<Line<'a>, LineFault>
 }
 
 fn read_end<'a>(file: File, mut words: Words<'a>) -> Result<Line<'a>, LineFault>
-    ensures the_end_of_the_file { λ r. ⌜ line-answer r ≡ end-at file (place (words .entry)) ⌝ }
+    ensures the_end_line_of_its_file { λ r. ⌜ line-answer r ≡ end-at file (place (words .entry)) ⌝ }
 {
     let word = words.next_word()?;
     if !is_word(word.bytes, file.ending()) {
@@ -234,8 +234,8 @@ fn line_after<'a>(file: File, key: Key, words: Words<'a>) -> Result<Line<'a>, Li
     }
 }
 
-// The key of a line in this file and what follows its equals sign. A line in the wrong place is refused by its key,
-// before its words are looked at.
+// The key of a line in this file and what follows its equals sign. A key that is absent, unknown or the other file's is
+// refused before any word is looked at.
 pub fn recognise<'a>(file: File, line: &'a [u8]) -> Result<(Key, &'a [u8]), LineFault>
     ensures the_key_and_what_follows_or_the_fault { λ r. ⌜ key-answer r ≡ recognised file (now (line .entry)) ⌝ }
 {

@@ -202,7 +202,11 @@ fn choice_sort(sorts: &[Sort], f: u16, a: u16, b: u16) -> Result<Sort, TermFault
 }
 
 // The sort of a term among the declarations and the sorts of the terms before it, or its fault.
-pub fn sort_of(declarations: Declarations<'_>, sorts: &[Sort], term: Term) -> Result<Sort, TermFault>
+pub fn sort_of(
+    declarations: Declarations<'_>,
+    sorts: &[Sort],
+    term: Term,
+) -> Result<Sort, TermFault>
     ensures the_sort_or_the_fault { λ r. ⌜ r ≡ sort (declared (declarations .entry)) (now (sorts .entry)) term ⌝ }
 {
     match term {

@@ -1,5 +1,8 @@
--- What can be wrong with a line, by the numbers that a report shows.
+-- What can be wrong with a line and with a file, by the numbers that a report shows.
+use mathlib.Core.List.{List, _++_}
 use Prim.Native.Nat.{ℕ}
+use lib.Chars.{codes}
+use Rattle.std.specs.Written.{decimal}
 use Rattle.std.specs.declared.result.Result.{Result}
 use Rattle.std.specs.declared.result.Result.the-variants.{Ok, Err}
 use Rattle.text.specs.declared.faults.FileFault.{FileFault}
@@ -11,8 +14,8 @@ use Rattle.text.specs.declared.faults.Wrong.the-variants.{Byte, NoLineFeed, Ke
 
 -- The number of each kind of fault:
 -- 2, a byte outside 32 to 126, or a line of more than 255 bytes;
--- 3, no line feed at its end;
--- 4, no key that is known;
+-- 3, no line feed at its end, or no line where the file's end line is missing;
+-- 4, a key that is absent, unknown in the file, or out of place;
 -- 5, a word that is missing, extra, empty or misformed.
 abbrev pub number : Wrong → ℕ
 number Byte = 2
@@ -42,3 +45,8 @@ fault wrong column = record { wrong = wrong; column = column }
 abbrev pub placed-at : {A : Type 0} → ℕ → Result A LineFault → Result A Placed
 placed-at line (Ok value) = Ok value
 placed-at line (Err fault) = Err (record { line = line; fault = fault })
+
+-- A fault as it is printed.
+abbrev pub printed : FileFault → List ℕ
+printed fault =
+    codes "refused number=" ++ (decimal (file-number fault) ++ (codes " line=" ++ (decimal (file-line fault) ++ (codes " column=" ++ decimal (file-column fault)))))

@@ -1,4 +1,4 @@
--- The key of a line: the word before its equals sign.
+-- The key of a line: the word before its first equals sign. (No key's word has one.)
 use mathlib.Core.Bool.{cond}
 use mathlib.Core.List.{List, [], _∷_, _++_}
 use mathlib.Core.Path.{_≡_}
@@ -60,7 +60,7 @@ abbrev pub first-of : List Key → List ℕ → Option (Key × List ℕ)
 first-of [] line = None
 first-of (key ∷ keys) line = or-else (mapped (λ rest. (key, rest)) (after (word key ++ codes "=") line)) (first-of keys line)
 
--- Every key. No two can fit one line, so that their order plays no part.
+-- Every key. No key's word and equals sign begin another's, so that the order in which they are asked plays no part.
 abbrev pub every-key : List Key
 every-key = «Type» ∷ Term ∷ Init ∷ Rule ∷ Var ∷ Set ∷ Inv ∷ End ∷ Cause ∷ Protocol ∷ Proposal ∷ []
 

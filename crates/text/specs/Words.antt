@@ -73,7 +73,7 @@ bind (Err e) f = Err e
 abbrev pub word-at : Place → Result WordV LineFault
 word-at p = cond (over p) (Err (fault wrong.Word (end-column p))) (Ok (word p))
 
--- The fault that words are left.
+-- That no word is left, or the fault at the first that is.
 abbrev pub nothing-at : Place → Result (Unit {0}) LineFault
 nothing-at p = cond (over p) (Ok tt) (Err (fault wrong.Word (column p)))
 
@@ -96,10 +96,11 @@ name-byte b = letter b || (digit b || (eqb b 95 || (eqb b 46 || (eqb b 91 || eqb
 abbrev pub is-name : List ℕ → Bool
 is-name bytes = leb 1 (length bytes) && (leb (length bytes) 16 && every name-byte bytes)
 
--- A number is one to three decimal digits, of which the first of several is not 0.
+-- One to three bytes, of which the first of several is not the digit 0.
 abbrev pub number-length : List ℕ → Bool
 number-length bytes = eqb (length bytes) 1 || (leb 2 (length bytes) && (leb (length bytes) 3 && not (eqb (getD bytes 0 0) 48)))
 
+-- A number: such bytes, all of them decimal digits.
 abbrev pub is-number : List ℕ → Bool
 is-number bytes = number-length bytes && every digit bytes
 
@@ -109,8 +110,7 @@ decimal bytes = folded (λ value b. value * 10 + (b - 48)) 0 bytes
 abbrev pub number-of : List ℕ → Option ℕ
 number-of bytes = cond (is-number bytes) (Some (decimal bytes)) None
 
--- A number as it stands in a line: its value, and the column where it begins.
--- (the record `Number` of the code is that pair)
+-- A value with the column where its number begins; or the fault that the word is no number.
 abbrev pub number-or : ℕ → Option ℕ → Result Number LineFault
 number-or column (Some value) = Ok (record { value = value; column = column })
 number-or column None = Err (fault wrong.Word column)

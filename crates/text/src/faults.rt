@@ -1,15 +1,17 @@
-// What can be wrong with a line.
+// What can be wrong with a line, and with a file.
 ghost use mathlib.Core.Path.{_≡_};
-ghost use Rattle.text.specs.Faults.{number as number-of, file-number, file-line, file-column, placed-at};
+ghost use Rattle.text.specs.Faults.{number as number-of, file-number, file-line, file-column, placed-at, printed};
+ghost use Rattle.std.specs.declared.option.Option.the-variants.{Some};
 ghost use Rattle.text.specs.declared.faults.FileFault.the-variants.{Line};
+use std::fmt;
 
 #[derive(Clone, Copy, Debug, PartialEq, Eq)]
 pub enum Wrong {
     // A byte outside 32 to 126, or a line of more than 255 bytes.
     Byte,
-    // The text ends before a line feed.
+    // The text ends before a line feed, or before the line that ends the file.
     NoLineFeed,
-    // The key is absent, or not known here.
+    // The key is absent, not known in this file, or out of place.
     Key,
     // A word is missing, extra, empty or misformed.
     Word,
@@ -89,6 +91,18 @@ pub impl From<Placed> for FileFault as FileFaultFromPlaced {
 
     fn from(value: Placed) -> FileFault {
         FileFault::Line(value)
+    }
+}
+
+// A fault as it is printed: `refused number=N line=L column=C`.
+pub impl fmt::Display for FileFault as FileFaultDisplay {
+    ghost shown = { λ fault. Some (printed fault) };
+
+    fn fmt<W: fmt::Write>(&self, f: &mut fmt::Formatter<W>) -> fmt::Result {
+        let number = self.number();
+        let line = self.line();
+        let column = self.column();
+        write!(f, "refused number={number} line={line} column={column}")
     }
 }
 

@@ -3,7 +3,7 @@ ghost use mathlib.Core.List.{[], _∷_};
 ghost use mathlib.Core.Path.{_≡_};
 ghost use lib.ListN.{length};
 ghost use Rattle.std.specs.Options.{Cases};
-ghost use Rattle.text.specs.Keys.{key-number, first-of, key-of, line-with, seen, Keyless};
+ghost use Rattle.text.specs.Keys.{key-number, word, first-of, key-of, line-with, seen, Keyless};
 
 #[derive(Clone, Copy, Debug, PartialEq, Eq)]
 pub enum Key {
@@ -26,6 +26,25 @@ impl Key {
         ensures the_number_of_the_key { λ r. ⌜ r ≡ key-number self ⌝ }
     {
         self as u8
+    }
+
+    // The word that it is written with.
+    pub fn word(self) -> &'static str
+        ensures the_word_of_the_key { λ r. ⌜ now r ≡ word self ⌝ }
+    {
+        match self {
+            Key::Protocol => "protocol",
+            Key::Type => "type",
+            Key::Var => "var",
+            Key::Term => "term",
+            Key::Init => "init",
+            Key::Rule => "rule",
+            Key::Set => "set",
+            Key::End => "end",
+            Key::Proposal => "proposal",
+            Key::Inv => "inv",
+            Key::Cause => "cause",
+        }
     }
 
     // How many bytes its word and the equals sign take.
@@ -122,7 +141,7 @@ fn of_a_cause(line: &[u8]) -> Option<(Key, &[u8])>
 // The key of a line and what follows its equals sign, a part of the line; none where no key fits.
 pub fn split_key(line: &[u8]) -> Option<(Key, &[u8])>
     ensures the_key_and_what_follows { λ r. ⌜ seen r ≡ key-of (now (line .entry)) ⌝ }
-    ensures put_together_they_are_the_line { λ r. ⌜ Cases r (Keyless (now (line .entry))) (λ p. line-with (p .0) (now (p .1)) ≡ now (line .entry)) ⌝ }
+    ensures put_together_they_are_the_line_or_no_key_fits { λ r. ⌜ Cases r (Keyless (now (line .entry))) (λ p. line-with (p .0) (now (p .1)) ≡ now (line .entry)) ⌝ }
 {
     if let Some(found) = four_letters(line) {
         return Some(found);

@@ -91,8 +91,8 @@ fn is_digit(byte: u8) -> bool
     b'0' <= byte && byte <= b'9'
 }
 
-// Whether the bytes may be a number: one to three, and the first of several is not 0.
-fn has_length_of_number(bytes: &[u8]) -> bool
+// Whether the bytes, if they are digits, are a number: one to three, and the first of several is not 0.
+fn may_be_number(bytes: &[u8]) -> bool
     ensures one_to_three_and_no_leading_zero { λ r. ⌜ r ≡ number-length (now (bytes .entry)) ⌝ }
 {
     match bytes {
@@ -106,7 +106,7 @@ fn has_length_of_number(bytes: &[u8]) -> bool
 pub fn parse_number(bytes: &[u8]) -> Option<u16>
     ensures the_value_of_a_number { λ r. ⌜ r ≡ number-of (now (bytes .entry)) ⌝ }
 {
-    if !has_length_of_number(bytes) {
+    if !may_be_number(bytes) {
         return None;
     }
     let mut value: u16 = 0;

@@ -5,27 +5,22 @@ use line::lines::File;
 use std::fs;
 use std::io;
 use std::io::ErrorKind;
+use text::faults::FileFaultDisplay;
 use text::keys::Key;
 
-// The keys of a file, in the order of its lines, with the words that they are written with.
-const OF_A_PROTOCOL: [(Key, &str); 8] = [
-    (Key::Protocol, "protocol"),
-    (Key::Type, "type"),
-    (Key::Var, "var"),
-    (Key::Term, "term"),
-    (Key::Init, "init"),
-    (Key::Rule, "rule"),
-    (Key::Set, "set"),
-    (Key::End, "end"),
+// The keys of each file, in the order of its lines.
+const OF_A_PROTOCOL: [Key; 8] = [
+    Key::Protocol,
+    Key::Type,
+    Key::Var,
+    Key::Term,
+    Key::Init,
+    Key::Rule,
+    Key::Set,
+    Key::End,
 ];
 
-const OF_A_PROPOSAL: [(Key, &str); 5] = [
-    (Key::Proposal, "proposal"),
-    (Key::Term, "term"),
-    (Key::Inv, "inv"),
-    (Key::Cause, "cause"),
-    (Key::End, "end"),
-];
+const OF_A_PROPOSAL: [Key; 5] = [Key::Proposal, Key::Term, Key::Inv, Key::Cause, Key::End];
 
 // The bytes of a file. One that is missing counts as empty.
 fn read_or_empty(rt: &LibcRuntime, path: &str) -> io::Result<Vec<u8>> {
@@ -41,27 +36,18 @@ fn read_or_empty(rt: &LibcRuntime, path: &str) -> io::Result<Vec<u8>> {
     }
 }
 
-fn print_account(
-    rt: &LibcRuntime,
-    path: &str,
-    keys: &[(Key, &'static str)],
-    account: &Account,
-) -> io::Result<()> {
+fn print_account(rt: &LibcRuntime, path: &str, keys: &[Key], account: &Account) -> io::Result<()> {
     let bytes = account.bytes;
     let lines = account.tally.lines;
     println!(rt, "{path}: {bytes} bytes, {lines} lines read")?;
-    for (key, word) in keys {
+    for key in keys {
+        let word = key.word();
         let count = account.lines_of(*key);
         println!(rt, "  {word} {count}")?;
     }
     match account.fault {
         None => println!(rt, "  read to its end"),
-        Some(fault) => {
-            let number = fault.number();
-            let line = fault.line();
-            let column = fault.column();
-            println!(rt, "  refused number={number} line={line} column={column}")
-        }
+        Some(fault) => println!(rt, "  {fault}"),
     }
 }
 

@@ -31,7 +31,7 @@ pub returns-in-Some : need.returns-in-Some
 returns-in-Some c =
     let line = c .args .line .now in
     let is = settled four (three ++ long) line _ (c .in-Some .ensures tt .the-key-and-what-follows) in
-    record { the-key-and-what-follows = is; put-together-they-are-the-line = key-law (Some (c .in-Some .found)) line is }
+    record { the-key-and-what-follows = is; put-together-they-are-the-line-or-no-key-fits = key-law (Some (c .in-Some .found)) line is }
 
 pub returns-in-Some-three-letters : need.returns-in-Some-three-letters
 returns-in-Some-three-letters c =
@@ -39,7 +39,7 @@ returns-in-Some-three-letters c =
     let is =
     settled three long line _ (c .in-Some-three-letters .ensures tt .the-key-and-what-follows)
     ∙ past-four line (c .in-rest .ensures tt .the-key-and-what-follows) in
-    record { the-key-and-what-follows = is; put-together-they-are-the-line = key-law (Some (c .in-Some-three-letters .found)) line is }
+    record { the-key-and-what-follows = is; put-together-they-are-the-line-or-no-key-fits = key-law (Some (c .in-Some-three-letters .found)) line is }
 
 pub returns-in-Some-of-a-cause : need.returns-in-Some-of-a-cause
 returns-in-Some-of-a-cause c =
@@ -47,7 +47,7 @@ returns-in-Some-of-a-cause c =
     let is =
     settled (Cause ∷ []) (Protocol ∷ Proposal ∷ []) line _ (c .in-Some-of-a-cause .ensures tt .the-key-and-what-follows)
     ∙ past-three line (c .in-rest .ensures tt .the-key-and-what-follows) (c .in-rest-three-letters .ensures tt .the-key-and-what-follows) in
-    record { the-key-and-what-follows = is; put-together-they-are-the-line = key-law (Some (c .in-Some-of-a-cause .found)) line is }
+    record { the-key-and-what-follows = is; put-together-they-are-the-line-or-no-key-fits = key-law (Some (c .in-Some-of-a-cause .found)) line is }
 
 pub returns-in-Some-of-a-protocol : need.returns-in-Some-of-a-protocol
 returns-in-Some-of-a-protocol c =
@@ -56,7 +56,7 @@ returns-in-Some-of-a-protocol c =
     settled (Protocol ∷ []) (Proposal ∷ []) line _ (c .in-Some-of-a-protocol .ensures tt .the-key-and-what-follows)
     ∙ past-cause line (c .in-rest .ensures tt .the-key-and-what-follows) (c .in-rest-three-letters .ensures tt .the-key-and-what-follows)
     (c .in-rest-of-a-cause .ensures tt .the-key-and-what-follows) in
-    record { the-key-and-what-follows = is; put-together-they-are-the-line = key-law (Some (c .in-Some-of-a-protocol .found)) line is }
+    record { the-key-and-what-follows = is; put-together-they-are-the-line-or-no-key-fits = key-law (Some (c .in-Some-of-a-protocol .found)) line is }
 
 pub returns : need.returns
 returns c =
@@ -66,4 +66,4 @@ returns c =
     ∙ passed (Protocol ∷ []) (Proposal ∷ []) line (c .in-rest-of-a-protocol .ensures tt .the-key-and-what-follows)
     ∙ past-cause line (c .in-rest .ensures tt .the-key-and-what-follows) (c .in-rest-three-letters .ensures tt .the-key-and-what-follows)
     (c .in-rest-of-a-cause .ensures tt .the-key-and-what-follows) in
-    record { the-key-and-what-follows = is; put-together-they-are-the-line = key-law (c .of-a-proposal .result) line is }
+    record { the-key-and-what-follows = is; put-together-they-are-the-line-or-no-key-fits = key-law (c .of-a-proposal .result) line is }

@@ -22,5 +22,5 @@ returns c =
     let all = every-done digit _ _ (c .loop-byte .inv .2) (c .loop-byte-test .left) in
     record {
       the-value-of-a-number =
-          a-number (c .args .bytes .now) _ _ (c .loop-byte-test .left) (c .loop-byte .inv .0) (c .if-not-has-length-of-number .ensures tt .one-to-three-and-no-leading-zero) all;
+          a-number (c .args .bytes .now) _ _ (c .loop-byte-test .left) (c .loop-byte .inv .0) (c .if-not-may-be-number .ensures tt .one-to-three-and-no-leading-zero) all;
     }
