@@ -10,18 +10,32 @@ use Rattle.text.specs.declared.faults.FileFault.the-variants.{TooLong, Line}
 use Rattle.text.specs.declared.faults.LineFault.{LineFault}
 use Rattle.text.specs.declared.faults.Placed.{Placed}
 use Rattle.text.specs.declared.faults.Wrong.{Wrong}
-use Rattle.text.specs.declared.faults.Wrong.the-variants.{Byte, NoLineFeed, Key, Word}
+use Rattle.text.specs.declared.faults.Wrong.the-variants.{Byte, NoLineFeed, Key, Word, Used, Unknown, NoSuch, WrongSort, TooMany, TooManyStates, SetTwice}
 
 -- The number of each kind of fault:
 -- 2, a byte outside 32 to 126, or a line of more than 255 bytes;
 -- 3, no line feed at its end, or no line where the file's end line is missing;
 -- 4, a key that is absent, unknown in the file, or out of place;
--- 5, a word that is missing, extra, empty or misformed.
+-- 5, a word that is missing, extra, empty or misformed;
+-- 6, a name that is used already;
+-- 7, a name of nothing that is declared;
+-- 8, a number of nothing that exists;
+-- 9, a term of the wrong sort;
+-- 10, more lines or values than allowed;
+-- 11, more than 2^40 states;
+-- 12, a variable that the rule sets already.
 abbrev pub number : Wrong → ℕ
 number Byte = 2
 number NoLineFeed = 3
 number Key = 4
 number Word = 5
+number Used = 6
+number Unknown = 7
+number NoSuch = 8
+number WrongSort = 9
+number TooMany = 10
+number TooManyStates = 11
+number SetTwice = 12
 
 -- The numbers that a report shows of a file's fault: a file of more than 65,536 bytes is number 1, at line 0 and
 -- column 0; any other fault is that of a line.

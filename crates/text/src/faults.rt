@@ -15,6 +15,20 @@ pub enum Wrong {
     Key,
     // A word is missing, extra, empty or misformed.
     Word,
+    // A name that is used already.
+    Used,
+    // A name of nothing that is declared.
+    Unknown,
+    // A number of nothing that exists.
+    NoSuch,
+    // A term of the wrong sort.
+    WrongSort,
+    // More lines or values than allowed.
+    TooMany,
+    // More than 2^40 states.
+    TooManyStates,
+    // A variable that the rule sets already.
+    SetTwice,
 }
 
 impl Wrong {
@@ -27,6 +41,13 @@ impl Wrong {
             Wrong::NoLineFeed => 3,
             Wrong::Key => 4,
             Wrong::Word => 5,
+            Wrong::Used => 6,
+            Wrong::Unknown => 7,
+            Wrong::NoSuch => 8,
+            Wrong::WrongSort => 9,
+            Wrong::TooMany => 10,
+            Wrong::TooManyStates => 11,
+            Wrong::SetTwice => 12,
         }
     }
 }
