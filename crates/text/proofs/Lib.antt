@@ -3,5 +3,6 @@ pub mod Found
 pub mod Fronts
 pub mod KeyLaws
 pub mod NameLaws
+pub mod Repeated
 pub mod Splits
 pub mod WordLaws

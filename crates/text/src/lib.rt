@@ -2,4 +2,5 @@
 pub mod faults;
 pub mod keys;
 pub mod lines;
+pub mod repeats;
 pub mod words;

@@ -6,6 +6,7 @@ ghost use Rattle.std.specs.shelf.Lists.{leading};
 ghost use Rattle.std.specs.shelf.Text.{sameBytes};
 ghost use Rattle.text.specs.Faults.{fault};
 ghost use Rattle.text.specs.declared.faults.Wrong.the-variants as wrong;
+ghost use Rattle.text.specs.Repeats.{start};
 ghost use Rattle.text.specs.Words.{place, next, seen, word-at, name-at, number-at, nothing-at, no-space, name-byte, is-name, digit, number-length, number-of, first-place, over, end-column, rest-at, words-left, all-names};
 use crate::faults::LineFault;
 use crate::faults::Wrong;
@@ -137,6 +138,17 @@ impl<'a> Words<'a> {
         Words {
             text: rest,
             before: key.width(),
+            at: 0,
+        }
+    }
+
+    // The words of a text that stands alone.
+    pub fn within(text: &'a [u8]) -> Words<'a>
+        ensures the_first_word_begins_the_text { λ r. ⌜ place r ≡ start (now (text .entry)) ⌝ }
+    {
+        Words {
+            text,
+            before: 0,
             at: 0,
         }
     }
