@@ -18,6 +18,15 @@ pub struct Name {
 }
 
 impl Name {
+    // A name without bytes, which no file has.
+    pub fn empty(heap: Global) -> Name
+        ensures no_bytes { λ r. ⌜ spelled r ≡ [] ⌝ }
+    {
+        Name {
+            bytes: Vec::new(heap),
+        }
+    }
+
     // A name of its own with these bytes.
     pub fn copy_of(heap: Global, bytes: &[u8]) -> Result<Name, AllocError>
         ensures a_name_with_these_bytes { λ r. ⌜ made r (λ n. spelled n ≡ now (bytes .entry)) ⌝ }

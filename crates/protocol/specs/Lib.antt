@@ -1,0 +1,12 @@
+pub mod Fitting
+pub mod InitialTests
+pub mod Limits
+pub mod Reading
+pub mod Ready
+pub mod Records
+pub mod Rows
+pub mod RuleTests
+pub mod Taking
+pub mod TypeTests
+pub mod VariableTests
+pub mod Views

@@ -1,0 +1,12 @@
+// A protocol, read from its file.
+mod adding;
+mod faults;
+mod initial;
+mod lookups;
+mod parts;
+mod rule_table;
+mod rules;
+mod tables;
+mod term_table;
+mod types;
+mod variables;
