@@ -1,2 +1,4 @@
+pub mod Keeps
 pub mod RuleLaws
+pub mod Standing
 pub mod TypeLaws

@@ -7,10 +7,12 @@ use Rattle.std.specs.declared.result.Result.{Result}
 use Rattle.std.specs.declared.result.Result.the-variants.{Ok, Err}
 use Rattle.names.specs.Names.{spelled}
 use Rattle.text.specs.declared.faults.LineFault.{LineFault}
+use Rattle.protocol.specs.Reading.{Draft}
 use Rattle.protocol.specs.Records.{ProtocolV, TypesV, VariablesV, TermsV, RuleV, AssignmentV}
 use Rattle.protocol.specs.declared.faults.TakeFault.{TakeFault}
 use Rattle.protocol.specs.declared.faults.TakeFault.the-variants.{Refusal, Memory}
 use Rattle.protocol.specs.declared.parts.Parts.{Parts}
+use Rattle.protocol.specs.declared.reader.Reader.{Reader}
 use Rattle.protocol.specs.declared.rules.Assignment.{Assignment}
 use Rattle.protocol.specs.declared.rules.Rule.{Rule}
 use Rattle.protocol.specs.declared.rules.RuleTable.{RuleTable}
@@ -59,3 +61,7 @@ parts-seen p =
       initial = vec-items (p .initial);
       rules = rules-seen (p .rules);
     }
+
+-- What half a file stands for.
+abbrev pub draft-seen : Reader → Draft
+draft-seen r = record { row = r .row; made = parts-seen (r .parts) }

@@ -89,7 +89,8 @@ found-parts None key other k rest is = inr is
 found-parts (Some x) key other k rest is =
     let same : _≡_ {A = Key × List ℕ} (key, x) (k, rest) = cc in inl (ap (λ p. Some (p .1)) same, ap (λ p. p .0) same)
 
-keyed : (keys : List Key) (line : List ℕ) (key : Key) (rest : List ℕ) → first-of keys line ≡ Some (key, rest) → line-with key rest ≡ line
+-- the key that is found, its equals sign and the rest are the line
+pub keyed : (keys : List Key) (line : List ℕ) (key : Key) (rest : List ℕ) → first-of keys line ≡ Some (key, rest) → line-with key rest ≡ line
 keyed [] line key rest is = absurd (some≢none (sym is))
 keyed (k ∷ keys) line key rest is =
     ⊎-elim
