@@ -28,16 +28,6 @@ use Rattle.line.specs.declared.lines.File.{File}
 use Rattle.account.specs.Accounts.{counted, taken, answered, Small}
 use Rattle.account.specs.declared.Tally.{Tally}
 
--- an answer that has its line was right without it
-pub placed-ok : {A : Type 0} (line : ℕ) (r : Result A LineFault) (x : A) → Ok x ≡ placed-at line r → r ≡ Ok x
-placed-ok line (Ok y) x is = let same : y ≡ x = cc in ap Ok same
-placed-ok line (Err e) x is = absurd (let z : _≡_ {A = ℕ} 0 1 = cc in omega arith)
-
--- a fault that has its line is a fault without it
-pub placed-err : {A : Type 0} (line : ℕ) (r : Result A LineFault) (p : Placed) → Err p ≡ placed-at line r → (e : LineFault) × (r ≡ Err e) × (p ≡ record { line = line; fault = e })
-placed-err line (Ok y) p is = absurd (let z : _≡_ {A = ℕ} 0 1 = cc in omega arith)
-placed-err line (Err e) p is = (e, refl, (let same : p ≡ record { line = line; fault = e } = cc in same))
-
 -- what holds of a fault
 pub refused-at : {A E : Type 0} (r : Result A E) (e : E) (P : Type 0) → r ≡ Err e → refused r (λ _. P) → P
 refused-at (Ok x) e P is holds = absurd (let z : _≡_ {A = ℕ} 0 1 = cc in omega arith)

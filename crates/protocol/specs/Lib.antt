@@ -1,6 +1,8 @@
+pub mod Answers
 pub mod Fitting
 pub mod InitialTests
 pub mod Limits
+pub mod ReadFaults
 pub mod Reading
 pub mod Ready
 pub mod Records

@@ -58,7 +58,10 @@ impl Reader {
     {
         let (key, rest) = recognise(File::Protocol, bytes)?;
         if !can_follow(self.row, key) {
-            return Err(TakeFault::Refusal(LineFault { wrong: Wrong::Key, column: 1 }));
+            return Err(TakeFault::Refusal(LineFault {
+                wrong: Wrong::Key,
+                column: 1,
+            }));
         }
         let line = read_line(File::Protocol, key, rest)?;
         self.parts.take_line(heap, line)?;

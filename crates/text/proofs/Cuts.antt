@@ -236,3 +236,18 @@ module _ {S : Type 0} (step : S → List ℕ → Result S LineFault) (ended : S 
   pub walk-done : (state : S) (number : ℕ) (text : List ℕ) → (ended state && eqb (length text) 0) ≡ true → record { state = state; fault = None } ≡ walk-through step ended state number (split text)
   walk-done state number [] done = sym (cond-true _ _ _ done)
   walk-done state number (b ∷ text) done = absurd (omega (arith, eqb-true (suc (length text)) 0 (and-parts (ended state) _ done .1)))
+
+-- a line whose bytes are not at fault has at most 255
+pub fine-short : (line : List ℕ) → byte-fault line ≡ None → length line ≤ 255
+fine-short line fine =
+    ⊎-elim
+    (λ long. absurd (let z : _≡_ {A = ℕ} 0 1 = cc (sym (cond-true (ltb 255 (leading printable line)) (Some (fault Byte 256)) _ (lt-ltb 255 (leading printable line) long)) ∙ fine) in omega arith))
+    (λ short.
+    ⊎-elim
+    (λ bad.
+    absurd (let z : _≡_ {A = ℕ} 0 1 = cc
+    (sym (cond-false (ltb 255 (leading printable line)) _ _ (le-ltb 255 (leading printable line) short)
+    ∙ cond-true (ltb (leading printable line) (length line)) (Some (fault Byte (leading printable line + 1))) None (lt-ltb (leading printable line) (length line) bad)) ∙ fine) in omega arith))
+    (λ all. omega arith)
+    (cases-lt (leading printable line) (length line)))
+    (cases-lt 255 (leading printable line))

@@ -3,6 +3,7 @@ pub mod Found
 pub mod Fronts
 pub mod KeyLaws
 pub mod NameLaws
+pub mod Placements
 pub mod Repeated
 pub mod Splits
 pub mod WordLaws

@@ -7,11 +7,12 @@ use lib.ListN.{length}
 use Rattle.std.proofs.shelf.Results.{err-from-errBy}
 use Rattle.std.specs.declared.option.Option.the-variants.{Some, None}
 use Rattle.std.specs.declared.result.Result.the-variants.{Ok, Err}
+use Rattle.text.proofs.Placements.{placed-ok, placed-err}
 use Rattle.text.proofs.Cuts.{cut-shorter, walk-more, walk-refused, walk-uncut, walk-done}
 use Rattle.text.specs.Faults.{placed-at}
 use Rattle.text.specs.Lines.{cut, parts}
 use Rattle.account.specs.Accounts.{taken, answered, counted, Small, outcome}
-use Rattle.account.proofs.Turns.{placed-ok, placed-err, refused-at, small-counted, taken-counted}
+use Rattle.account.proofs.Turns.{refused-at, small-counted, taken-counted}
 use Rattle.account.proofs.walk.Needs as need
 use Rattle.account.proofs.walk.Needs.{In-Continue-line, In-Continue-at-line}
 
