@@ -1,6 +1,7 @@
 pub mod Answers
 pub mod Fitting
 pub mod InitialTests
+pub mod Lawful
 pub mod Limits
 pub mod ReadFaults
 pub mod Reading
