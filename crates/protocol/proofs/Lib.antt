@@ -1,4 +1,5 @@
 pub mod Keeps
+pub mod Nths
 pub mod RuleLaws
 pub mod Standing
 pub mod TypeLaws

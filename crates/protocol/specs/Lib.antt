@@ -7,6 +7,7 @@ pub mod ReadFaults
 pub mod Reading
 pub mod Ready
 pub mod Records
+pub mod Looking
 pub mod Rows
 pub mod RuleTests
 pub mod Taking

@@ -2,6 +2,7 @@
 mod adding;
 mod faults;
 mod initial;
+mod looking;
 mod lookups;
 mod parts;
 pub mod read_faults;
@@ -9,7 +10,7 @@ mod reader;
 pub mod reading;
 pub mod record;
 mod rule_table;
-mod rules;
+pub mod rules;
 mod tables;
 mod taking;
 mod term_table;
