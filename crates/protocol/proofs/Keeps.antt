@@ -50,11 +50,11 @@ same-ok : {A E : Type 0} (x y : A) → _≡_ {A = Result A E} (Ok x) (Ok y) → 
 same-ok x y is = cc
 
 -- none of the tests applied
-abbrev AllFalse : Tests → Type 0
+abbrev pub AllFalse : Tests → Type 0
 AllFalse [] = Unit {0}
 AllFalse (test ∷ tests) = (test .0 ≡ false) × AllFalse tests
 
-unless-ok : {A : Type 0} (tests : Tests) (answer x : A) → unless tests answer ≡ Ok x → (answer ≡ x) × AllFalse tests
+pub unless-ok : {A : Type 0} (tests : Tests) (answer x : A) → unless tests answer ≡ Ok x → (answer ≡ x) × AllFalse tests
 unless-ok [] answer x is = (same-ok answer x is, tt)
 unless-ok (test ∷ tests) answer x is =
     let out = second-ok (test .0) (unless tests answer) (test .1) x is in

@@ -1,4 +1,5 @@
 pub mod Keeps
+pub mod LawTypes
 pub mod Nths
 pub mod RuleLaws
 pub mod Standing

@@ -89,7 +89,11 @@ impl Protocol {
         ensures the_name_of_the_rule { λ r. ⌜ mapped now r ≡ nth (map rule-name (protocol-seen (now (self .entry)) .rules)) i ⌝ }
     {
         let rules = self.parts.rules.rules.as_slice();
-        if i < rules.len() { Some(rules[i].name.as_bytes()) } else { None }
+        if i < rules.len() {
+            Some(rules[i].name.as_bytes())
+        } else {
+            None
+        }
     }
 
     // The guard of a rule.
@@ -97,7 +101,11 @@ impl Protocol {
         ensures the_guard_of_the_rule { λ r. ⌜ r ≡ nth (map rule-guard (protocol-seen (now (self .entry)) .rules)) i ⌝ }
     {
         let rules = self.parts.rules.rules.as_slice();
-        if i < rules.len() { Some(rules[i].guard) } else { None }
+        if i < rules.len() {
+            Some(rules[i].guard)
+        } else {
+            None
+        }
     }
 
     // The assignments of a rule.
@@ -105,6 +113,10 @@ impl Protocol {
         ensures the_assignments_of_the_rule { λ r. ⌜ mapped (λ s. map assignment-seen (now s)) r ≡ nth (map rule-sets (protocol-seen (now (self .entry)) .rules)) i ⌝ }
     {
         let rules = self.parts.rules.rules.as_slice();
-        if i < rules.len() { Some(rules[i].sets.as_slice()) } else { None }
+        if i < rules.len() {
+            Some(rules[i].sets.as_slice())
+        } else {
+            None
+        }
     }
 }

@@ -8,6 +8,7 @@ use text::faults::FileFault;
 use text::faults::FileFaultFromPlaced;
 use text::faults::Placed;
 
+#[derive(Clone, Copy)]
 pub enum ReadFault {
     // The file is at fault.
     Refused(FileFault),

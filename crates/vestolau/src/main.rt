@@ -1,25 +1,18 @@
-// Reads `protocol.txt` and `proposal.txt` in the folder that it runs in, and prints an account of each.
+// Reads `protocol.txt` and `proposal.txt` in the folder that it runs in, and prints what they say or where they are at
+// fault.
 use account::Account;
 use account::survey;
 use line::lines::File;
+use protocol::read_faults::ReadFault;
+use protocol::reading::read;
+use protocol::record::Protocol;
 use std::fs;
 use std::io;
 use std::io::ErrorKind;
 use text::faults::FileFaultDisplay;
 use text::keys::Key;
 
-// The keys of each file, in the order of its lines.
-const OF_A_PROTOCOL: [Key; 8] = [
-    Key::Protocol,
-    Key::Type,
-    Key::Var,
-    Key::Term,
-    Key::Init,
-    Key::Rule,
-    Key::Set,
-    Key::End,
-];
-
+// The keys of a proposal, in the order of its lines.
 const OF_A_PROPOSAL: [Key; 5] = [Key::Proposal, Key::Term, Key::Inv, Key::Cause, Key::End];
 
 // The bytes of a file. One that is missing counts as empty.
@@ -36,13 +29,50 @@ fn read_or_empty(rt: &LibcRuntime, path: &str) -> io::Result<Vec<u8>> {
     }
 }
 
-fn print_account(rt: &LibcRuntime, path: &str, keys: &[Key], account: &Account) -> io::Result<()> {
-    let bytes = account.bytes;
-    let lines = account.tally.lines;
-    println!(rt, "{path}: {bytes} bytes, {lines} lines read")?;
-    for key in keys {
+// A name is made of letters, digits and a few signs, so that it is always text.
+fn as_text(bytes: &[u8]) -> &str {
+    match std::str::from_utf8(bytes) {
+        Ok(text) => text,
+        Err(_) => "",
+    }
+}
+
+fn print_protocol(rt: &LibcRuntime, protocol: &Protocol) -> io::Result<()> {
+    let name = as_text(protocol.name());
+    let types = protocol.type_count();
+    let variables = protocol.variable_count();
+    let states = protocol.state_count();
+    let terms = protocol.terms().len();
+    let initial = protocol.initial().len();
+    let rules = protocol.rule_count();
+    println!(rt, "  name {name}")?;
+    println!(rt, "  types {types}")?;
+    println!(rt, "  variables {variables}, states {states}")?;
+    println!(rt, "  terms {terms}")?;
+    println!(rt, "  initial formulas {initial}")?;
+    println!(rt, "  rules {rules}")?;
+    for i in 0..rules {
+        let (Some(rule), Some(sets)) = (protocol.rule_name(i), protocol.sets(i)) else {
+            break;
+        };
+        let rule = as_text(rule);
+        let assignments = sets.len();
+        println!(rt, "    {rule}, assignments {assignments}")?;
+    }
+    println!(rt, "  read to its end")
+}
+
+fn print_fault(rt: &LibcRuntime, fault: ReadFault) -> io::Result<()> {
+    match fault {
+        ReadFault::Refused(fault) => println!(rt, "  {fault}"),
+        ReadFault::Memory => println!(rt, "  not read: no memory"),
+    }
+}
+
+fn print_account(rt: &LibcRuntime, account: &Account) -> io::Result<()> {
+    for key in OF_A_PROPOSAL {
         let word = key.word();
-        let count = account.lines_of(*key);
+        let count = account.lines_of(key);
         println!(rt, "  {word} {count}")?;
     }
     match account.fault {
@@ -52,18 +82,16 @@ fn print_account(rt: &LibcRuntime, path: &str, keys: &[Key], account: &Account) 
 }
 
 fn main(rt: LibcRuntime) -> io::Result<()> {
-    let protocol = read_or_empty(&rt, "protocol.txt")?;
-    let proposal = read_or_empty(&rt, "proposal.txt")?;
-    print_account(
-        &rt,
-        "protocol.txt",
-        &OF_A_PROTOCOL,
-        &survey(File::Protocol, &protocol),
-    )?;
-    print_account(
-        &rt,
-        "proposal.txt",
-        &OF_A_PROPOSAL,
-        &survey(File::Proposal, &proposal),
-    )
+    let text = read_or_empty(&rt, "protocol.txt")?;
+    let bytes = text.len();
+    println!(rt, "protocol.txt: {bytes} bytes")?;
+    let mut protocol = Protocol::empty(rt.alloc());
+    match read(rt.alloc(), &text, &mut protocol) {
+        Ok(()) => print_protocol(&rt, &protocol)?,
+        Err(fault) => print_fault(&rt, fault)?,
+    }
+    let text = read_or_empty(&rt, "proposal.txt")?;
+    let bytes = text.len();
+    println!(rt, "proposal.txt: {bytes} bytes")?;
+    print_account(&rt, &survey(File::Proposal, &text))
 }
