@@ -33,20 +33,20 @@ use Rattle.protocol.specs.Rows.{row-of, may-follow}
 use Rattle.protocol.specs.Taking.{Tests, unless, used, unknown, full, repeated, no-such, no-formula, value-words, number-in, is-set, last-rule, with-last, take-type, take-variable, take-term, take-initial, take-rule, take-set}
 
 -- what is handed on from a right answer
-bind-ok : {A B E : Type 0} (r : Result A E) (f : A → Result B E) (y : B) → bind r f ≡ Ok y → (x : A) × (r ≡ Ok x) × (f x ≡ Ok y)
+pub bind-ok : {A B E : Type 0} (r : Result A E) (f : A → Result B E) (y : B) → bind r f ≡ Ok y → (x : A) × (r ≡ Ok x) × (f x ≡ Ok y)
 bind-ok (Ok x) f y is = (x, refl, is)
 bind-ok (Err e) f y is = absurd (let z : _≡_ {A = ℕ} 0 1 = cc in omega arith)
 
 -- a right answer is not the fault
-first-ok : {A E : Type 0} (b : Bool) (r : Result A E) (e : E) (x : A) → cond b r (Err e) ≡ Ok x → (b ≡ true) × (r ≡ Ok x)
+pub first-ok : {A E : Type 0} (b : Bool) (r : Result A E) (e : E) (x : A) → cond b r (Err e) ≡ Ok x → (b ≡ true) × (r ≡ Ok x)
 first-ok true r e x is = (refl, is)
 first-ok false r e x is = absurd (let z : _≡_ {A = ℕ} 0 1 = cc in omega arith)
 
-second-ok : {A E : Type 0} (b : Bool) (r : Result A E) (e : E) (x : A) → cond b (Err e) r ≡ Ok x → (b ≡ false) × (r ≡ Ok x)
+pub second-ok : {A E : Type 0} (b : Bool) (r : Result A E) (e : E) (x : A) → cond b (Err e) r ≡ Ok x → (b ≡ false) × (r ≡ Ok x)
 second-ok true r e x is = absurd (let z : _≡_ {A = ℕ} 0 1 = cc in omega arith)
 second-ok false r e x is = (refl, is)
 
-same-ok : {A E : Type 0} (x y : A) → _≡_ {A = Result A E} (Ok x) (Ok y) → x ≡ y
+pub same-ok : {A E : Type 0} (x y : A) → _≡_ {A = Result A E} (Ok x) (Ok y) → x ≡ y
 same-ok x y is = cc
 
 -- none of the tests applied
@@ -101,13 +101,13 @@ variable-fits types name of s after fits is =
       few-states = ltb-false (2 ^ 40) states (out .1 .1 .1 .1 .0);
     })
 
-rule-pushed : (terms : TermsV) (name : WordV) (guard : Number) (s after : List RuleV) → take-rule terms name guard s ≡ Ok after → 0 < length after
+pub rule-pushed : (terms : TermsV) (name : WordV) (guard : Number) (s after : List RuleV) → take-rule terms name guard s ≡ Ok after → 0 < length after
 rule-pushed terms name guard s after is =
     let rule : RuleV = record { name = name .bytes; guard = guard .value; sets = [] } in
     let out = unless-ok (used (map (λ r. r .name) s) name ∷ no-such (terms .sorts) guard ∷ no-formula (terms .sorts) guard ∷ full 64 s ∷ []) (s ++ rule ∷ []) after is in
     omega (arith, ap length (out .0), length-push s rule)
 
-rule-set : (variables : VariablesV) (terms : TermsV) (name : WordV) (n : Number) (s after : List RuleV) → take-set variables terms name n s ≡ Ok after → length after ≡ length s
+pub rule-set : (variables : VariablesV) (terms : TermsV) (name : WordV) (n : Number) (s after : List RuleV) → take-set variables terms name n s ≡ Ok after → length after ≡ length s
 rule-set variables terms name n s after is =
     let variable = number-in (variables .names) name in
     let rule = last-rule s in
@@ -121,12 +121,12 @@ rule-set variables terms name n s after is =
     sym (ap length (out .0)) ∙ length-set s (length s - 1) changed
 
 -- what a line's part is put into
-part-ok : {A : Type 0} (r : Result A LineFault) (put : A → ProtocolV) (made : ProtocolV) → bind r (λ x. Ok (put x)) ≡ Ok made → (x : A) × (r ≡ Ok x) × (put x ≡ made)
+pub part-ok : {A : Type 0} (r : Result A LineFault) (put : A → ProtocolV) (made : ProtocolV) → bind r (λ x. Ok (put x)) ≡ Ok made → (x : A) × (r ≡ Ok x) × (put x ≡ made)
 part-ok r put made is =
     let out = bind-ok r (λ x. Ok (put x)) made is in
     (out .0, out .1, same-ok (put (out .0)) made (out .2))
 
-abbrev at-row : ℕ → ProtocolV → Draft
+abbrev pub at-row : ℕ → ProtocolV → Draft
 at-row row made = record { row = row; made = made }
 
 line-fits : (draft : Draft) (l : LineV) (made : ProtocolV) → Fit draft → may-follow (draft .row) (key-of-line l) ≡ true → take-line l (draft .made) ≡ Ok made → Fit (at-row (row-of (key-of-line l)) made)

@@ -1,5 +1,8 @@
 pub mod Keeps
+pub mod LawNames
+pub mod LawTerms
 pub mod LawTypes
+pub mod LawWhole
 pub mod Nths
 pub mod RuleLaws
 pub mod Standing

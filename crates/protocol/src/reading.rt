@@ -1,6 +1,8 @@
 // Reading a protocol file.
 ghost use mathlib.Core.Path.{_≡_};
+ghost use Rattle.std.specs.Vec.{made};
 ghost use Rattle.protocol.specs.Answers.{protocol-seen, Parsed, Told};
+ghost use Rattle.protocol.specs.Lawful.{Lawful};
 ghost use Rattle.protocol.specs.Reading.{protocol-of};
 ghost use Rattle.protocol.specs.Records.{empty};
 use crate::parts::Parts;
@@ -43,6 +45,7 @@ fn parse(heap: Global, bytes: &[u8]) -> Result<Protocol, ReadFault>
 // Reads a protocol file into the caller's place. After a refusal, or for want of memory, the empty protocol stands there.
 pub fn read(heap: Global, bytes: &[u8], into: &mut Protocol) -> Result<(), ReadFault>
     ensures the_protocol_that_the_file_says_or_the_empty_one { λ r. ⌜ Told r (protocol-seen (now (into .exit))) (protocol-of (now (bytes .entry))) ⌝ }
+    ensures what_is_read_obeys_all_limits_and_sorts { λ r. ⌜ made r (λ _. Lawful (protocol-seen (now (into .exit)))) ⌝ }
 {
     *into = Protocol::empty(heap);
     *into = parse(heap, bytes)?;
