@@ -1,8 +1,10 @@
+pub mod Copies
 pub mod Keeps
 pub mod LawNames
 pub mod LawTerms
 pub mod LawTypes
 pub mod LawWhole
+pub mod Matching
 pub mod Nths
 pub mod RuleLaws
 pub mod Standing

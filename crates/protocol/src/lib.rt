@@ -1,5 +1,7 @@
 // A protocol, read from its file.
 mod adding;
+mod comparing;
+mod copying;
 mod faults;
 mod initial;
 mod looking;
