@@ -820,4 +820,26 @@ mod tests {
         more.extend_from_slice(b"term=true\ninit=0\nend=protocol\n")?;
         check_eq(read_refusal(heap, &more), (10, 516, 1))
     }
+
+    // What a protocol says, part by part; a copy of it is equal, and another protocol is not.
+    #[test]
+    fn parts_of_a_protocol(rt: LibcRuntime) -> Result<(), Fail> {
+        let heap = rt.alloc();
+        let text = b"protocol=p\ntype=S a b\ntype=T c d e\nvar=x S\nvar=y T\nterm=true\ninit=0\nrule=r 0\nend=protocol\n";
+        let mut protocol = Protocol::empty(heap);
+        check(read(heap, text, &mut protocol).is_ok())?;
+        check_eq(protocol.type_name(1).unwrap_or(b""), b"T")?;
+        check_eq(protocol.value_name(1, 2).unwrap_or(b""), b"e")?;
+        check_eq(protocol.value_name(1, 3).is_some(), false)?;
+        check_eq(protocol.value_name(2, 0).is_some(), false)?;
+        check_eq(protocol.variable_name(1).unwrap_or(b""), b"y")?;
+        check_eq(protocol.state_count(), 6)?;
+        check_eq(protocol.guard(0).unwrap_or(9), 0)?;
+        let copy = protocol.copy(heap)?;
+        check(protocol.equals(&copy))?;
+        check(read(heap, b"", &mut protocol).is_err())?;
+        check_eq(protocol.rule_count(), 0)?;
+        check(!protocol.equals(&copy))?;
+        check(protocol.equals(&Protocol::empty(heap)))
+    }
 }

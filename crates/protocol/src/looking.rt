@@ -1,9 +1,10 @@
 // What a protocol says, part by part.
 ghost use mathlib.Core.List.{[], map};
 ghost use mathlib.Core.Path.{_≡_};
-ghost use lib.ListN.{length};
+ghost use lib.ListN.{getD, length};
 ghost use denote.Ref.{now};
 ghost use Rattle.std.specs.Options.{mapped};
+ghost use Rattle.names.specs.Names.{spelled};
 ghost use Rattle.protocol.specs.Answers.{protocol-seen};
 ghost use Rattle.protocol.specs.Looking.{nth, rule-name, rule-guard, rule-sets};
 ghost use Rattle.protocol.specs.Views.{assignment-seen};
@@ -13,7 +14,44 @@ use names::Name;
 use terms::Sort;
 use terms::Term;
 
+// The name of this number.
+fn name_at(names: &[Name], i: usize) -> Option<&[u8]>
+    ensures the_name_of_this_number { λ r. ⌜ mapped now r ≡ nth (map spelled (now (names .entry))) i ⌝ }
+{
+    if i < names.len() {
+        Some(names[i].as_bytes())
+    } else {
+        None
+    }
+}
+
 impl Protocol {
+    // The name of a type.
+    pub fn type_name(&self, i: usize) -> Option<&[u8]>
+        ensures the_name_of_the_type { λ r. ⌜ mapped now r ≡ nth (protocol-seen (now (self .entry)) .types .names) i ⌝ }
+    {
+        name_at(self.parts.types.names.as_slice(), i)
+    }
+
+    // The name of a value of a type.
+    pub fn value_name(&self, of: usize, i: usize) -> Option<&[u8]>
+        ensures the_name_of_the_value { λ r. ⌜ mapped now r ≡ nth (getD (protocol-seen (now (self .entry)) .types .values) of []) i ⌝ }
+    {
+        let values = self.parts.types.values.as_slice();
+        if of < values.len() {
+            name_at(values[of].as_slice(), i)
+        } else {
+            None
+        }
+    }
+
+    // The name of a variable.
+    pub fn variable_name(&self, i: usize) -> Option<&[u8]>
+        ensures the_name_of_the_variable { λ r. ⌜ mapped now r ≡ nth (protocol-seen (now (self .entry)) .variables .names) i ⌝ }
+    {
+        name_at(self.parts.variables.names.as_slice(), i)
+    }
+
     // Its name; no bytes for the empty protocol.
     pub fn name(&self) -> &[u8]
         ensures the_name_of_the_protocol { λ r. ⌜ now r ≡ protocol-seen (now (self .entry)) .name ⌝ }
