@@ -825,7 +825,8 @@ mod tests {
     #[test]
     fn parts_of_a_protocol(rt: LibcRuntime) -> Result<(), Fail> {
         let heap = rt.alloc();
-        let text = b"protocol=p\ntype=S a b\ntype=T c d e\nvar=x S\nvar=y T\nterm=true\ninit=0\nrule=r 0\nend=protocol\n";
+        let text =
+            b"protocol=p\ntype=S a b\ntype=T c d e\nvar=x S\nvar=y T\nterm=true\ninit=0\nrule=r 0\nend=protocol\n";
         let mut protocol = Protocol::empty(heap);
         check(read(heap, text, &mut protocol).is_ok())?;
         check_eq(protocol.type_name(1).unwrap_or(b""), b"T")?;
