@@ -1,4 +1,7 @@
 // The account of a file: its bytes, its lines by their kinds, and where it is at fault.
+
+#![tactic(auto)]
+
 ghost use Rattle.std.specs.Prelude.{◌≡◌, ℕ, ◌+◌, ◌^◌, ◌<◌, ◌≤◌, ◌&&◌, length, None, OnErr, ◌==◌, slice_index};
 ghost use Rattle.account.specs.Accounts.{nothing, counted, taken, answered, outcome, gone_through, account as the-account, Whole, SameLines, Small};
 ghost use Rattle.keys.specs.Keys.{key_number};

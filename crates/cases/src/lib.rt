@@ -1,4 +1,7 @@
 // Cases of files that are read to their end or refused, each with its number, line and column. Run as tests only.
+
+#![tactic(auto)]
+
 #[cfg(test)]
 mod tests {
     use account::survey;

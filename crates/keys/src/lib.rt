@@ -1,4 +1,7 @@
 // Knowing a line by its key.
+
+#![tactic(auto)]
+
 ghost use Rattle.std.specs.Prelude.{◌≡◌, [], ◌∷◌, length, MatchOption};
 ghost use Rattle.keys.specs.Keys.{key_number, word, first_of, key_of, line_with, seen, Keyless};
 

@@ -1,4 +1,7 @@
 // A protocol, read from its file.
+
+#![tactic(auto)]
+
 mod adding;
 mod comparing;
 mod copying;

@@ -1,5 +1,8 @@
 // Makes a table of 512 terms and computes the precondition of one of them as many times as told. The two words that it is
 // given are the number of the term and how many times; instructions are counted by running it with other words.
+
+#![tactic(auto)]
+
 use anyhow::anyhow;
 use precondition::copies::Copies;
 use precondition::scratch::precondition;

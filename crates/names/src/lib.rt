@@ -1,4 +1,7 @@
 // Owned names, and finding a row by its name.
+
+#![tactic(auto)]
+
 ghost use Rattle.std.specs.Prelude.{◌≡◌, ℕ, ◌<◌, List, [], map, length, IfOk, Decides, MatchOption, ◌≢◌, slice_index_or};
 ghost use Rattle.names.specs.Names.{spelled, place_in};
 ghost use Rattle.std.specs.Cmp.Rules.{comparing};

@@ -1,4 +1,7 @@
 // The precondition of a formula under a rule, written into a scratch of new terms.
+
+#![tactic(auto)]
+
 pub mod answers;
 pub mod copies;
 pub mod faults;

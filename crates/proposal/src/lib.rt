@@ -1,4 +1,7 @@
 // A proposal, read from its file with its protocol.
+
+#![tactic(auto)]
+
 pub mod claims;
 pub mod invariants;
 mod looking;

@@ -1,5 +1,8 @@
 // Reads `protocol.txt` and `proposal.txt` in the folder that it runs in, and prints what they say or where they are at
 // fault.
+
+#![tactic(auto)]
+
 use layered::reading::read;
 use layered::record::Protocol;
 use proposal::claims::Cause;

@@ -1,4 +1,7 @@
 // Cases of lines and files that are read or refused, each with its number, line and column. Run as tests only.
+
+#![tactic(auto)]
+
 #[cfg(test)]
 mod common;
 #[cfg(test)]

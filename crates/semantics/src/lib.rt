@@ -1,5 +1,8 @@
 // The meaning of protocols is defined in specs/. Each function here stands for a law about it: the contract is the law, and
 // no call does anything.
+
+#![tactic(auto)]
+
 ghost use Rattle.semantics.specs.Laws.{TruthLaw, SortLaw, DeclarationLaw, OccurrenceLaw, AssignmentLaw, FiringLaw, StateLaw, ReplacementLaw, PreconditionLaw, PreconditionSortLaw, UntouchedLaw, ReachableLaw, ConsistencyLaw};
 
 pub fn truth_law() -> u8

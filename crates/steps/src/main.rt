@@ -1,6 +1,9 @@
 // Shows on the protocol and the proposal in the folder that it runs in what firing and preconditions are: it fires one rule
 // after the other, from the state in which each variable has its first value, and prints the precondition of each invariant
 // under each rule.
+
+#![tactic(auto)]
+
 use anyhow::anyhow;
 use layered::record::Protocol;
 use precondition::copies::Copies;

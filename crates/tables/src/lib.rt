@@ -1,4 +1,7 @@
 // The tables that protocol and proposal files speak of: types, variables and terms.
+
+#![tactic(auto)]
+
 pub mod comparing;
 pub mod copying;
 pub mod looking;

@@ -1,4 +1,7 @@
 // Terms by numbers, their sorts, and what the trees that they stand for mean.
+
+#![tactic(auto)]
+
 pub mod firing;
 pub mod meanings;
 pub mod occurring;

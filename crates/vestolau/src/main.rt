@@ -1,5 +1,8 @@
 // Reads `protocol.txt` and `proposal.txt` in the folder that it runs in, and prints what they say or where they are at
 // fault.
+
+#![tactic(auto)]
+
 use account::{Account, survey};
 use keys::Key;
 use line::lines::File;

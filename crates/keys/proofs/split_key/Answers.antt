@@ -27,40 +27,40 @@ past_cause line a b d = passed (Cause ∷ []) (Protocol ∷ Proposal ∷ []) lin
 pub returns-in-Some : goal.returns-in-Some
 returns-in-Some c =
     let line = c.args.line.now in
-    let is = settled four (three ++ long) line _ c.in-Some.ensures.the-key-and-what-follows in
-    record { the-key-and-what-follows = is; put-together-they-are-the-line-or-no-key-fits = key_law (Some c.in-Some.found) line is }
+    let is = settled four (three ++ long) line _ c.in-Some.ensures.the_key_and_what_follows in
+    record { the_key_and_what_follows = is; put_together_they_are_the_line_or_no_key_fits = key_law (Some c.in-Some.found) line is }
 
-pub returns-in-Some-three-letters : goal.returns-in-Some-three-letters
-returns-in-Some-three-letters c =
+pub returns-in-Some-three_letters : goal.returns-in-Some-three_letters
+returns-in-Some-three_letters c =
     let line = c.args.line.now in
     let is =
-    settled three long line _ c.in-Some-three-letters.ensures.the-key-and-what-follows
-    ∙ past_four line c.in-default.ensures.the-key-and-what-follows in
-    record { the-key-and-what-follows = is; put-together-they-are-the-line-or-no-key-fits = key_law (Some c.in-Some-three-letters.found) line is }
+    settled three long line _ c.in-Some-three_letters.ensures.the_key_and_what_follows
+    ∙ past_four line c.in-default.ensures.the_key_and_what_follows in
+    record { the_key_and_what_follows = is; put_together_they_are_the_line_or_no_key_fits = key_law (Some c.in-Some-three_letters.found) line is }
 
-pub returns-in-Some-of-a-cause : goal.returns-in-Some-of-a-cause
-returns-in-Some-of-a-cause c =
+pub returns-in-Some-of_a_cause : goal.returns-in-Some-of_a_cause
+returns-in-Some-of_a_cause c =
     let line = c.args.line.now in
     let is =
-    settled (Cause ∷ []) (Protocol ∷ Proposal ∷ []) line _ c.in-Some-of-a-cause.ensures.the-key-and-what-follows
-    ∙ past_three line c.in-default.ensures.the-key-and-what-follows c.in-default-three-letters.ensures.the-key-and-what-follows in
-    record { the-key-and-what-follows = is; put-together-they-are-the-line-or-no-key-fits = key_law (Some c.in-Some-of-a-cause.found) line is }
+    settled (Cause ∷ []) (Protocol ∷ Proposal ∷ []) line _ c.in-Some-of_a_cause.ensures.the_key_and_what_follows
+    ∙ past_three line c.in-default.ensures.the_key_and_what_follows c.in-default-three_letters.ensures.the_key_and_what_follows in
+    record { the_key_and_what_follows = is; put_together_they_are_the_line_or_no_key_fits = key_law (Some c.in-Some-of_a_cause.found) line is }
 
-pub returns-in-Some-of-a-protocol : goal.returns-in-Some-of-a-protocol
-returns-in-Some-of-a-protocol c =
+pub returns-in-Some-of_a_protocol : goal.returns-in-Some-of_a_protocol
+returns-in-Some-of_a_protocol c =
     let line = c.args.line.now in
     let is =
-    settled (Protocol ∷ []) (Proposal ∷ []) line _ c.in-Some-of-a-protocol.ensures.the-key-and-what-follows
-    ∙ past_cause line c.in-default.ensures.the-key-and-what-follows c.in-default-three-letters.ensures.the-key-and-what-follows
-    c.in-default-of-a-cause.ensures.the-key-and-what-follows in
-    record { the-key-and-what-follows = is; put-together-they-are-the-line-or-no-key-fits = key_law (Some c.in-Some-of-a-protocol.found) line is }
+    settled (Protocol ∷ []) (Proposal ∷ []) line _ c.in-Some-of_a_protocol.ensures.the_key_and_what_follows
+    ∙ past_cause line c.in-default.ensures.the_key_and_what_follows c.in-default-three_letters.ensures.the_key_and_what_follows
+    c.in-default-of_a_cause.ensures.the_key_and_what_follows in
+    record { the_key_and_what_follows = is; put_together_they_are_the_line_or_no_key_fits = key_law (Some c.in-Some-of_a_protocol.found) line is }
 
 pub returns : goal.returns
 returns c =
     let line = c.args.line.now in
     let is =
-    c.of-a-proposal.ensures.the-key-and-what-follows
-    ∙ passed (Protocol ∷ []) (Proposal ∷ []) line c.in-default-of-a-protocol.ensures.the-key-and-what-follows
-    ∙ past_cause line c.in-default.ensures.the-key-and-what-follows c.in-default-three-letters.ensures.the-key-and-what-follows
-    c.in-default-of-a-cause.ensures.the-key-and-what-follows in
-    record { the-key-and-what-follows = is; put-together-they-are-the-line-or-no-key-fits = key_law c.of-a-proposal.result line is }
+    c.of_a_proposal.ensures.the_key_and_what_follows
+    ∙ passed (Protocol ∷ []) (Proposal ∷ []) line c.in-default-of_a_protocol.ensures.the_key_and_what_follows
+    ∙ past_cause line c.in-default.ensures.the_key_and_what_follows c.in-default-three_letters.ensures.the_key_and_what_follows
+    c.in-default-of_a_cause.ensures.the_key_and_what_follows in
+    record { the_key_and_what_follows = is; put_together_they_are_the_line_or_no_key_fits = key_law c.of_a_proposal.result line is }

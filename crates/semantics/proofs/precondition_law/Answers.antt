@@ -2,4 +2,4 @@ use Rattle.semantics.proofs.Firings.{precondition_law}
 use Rattle.semantics.proofs.precondition_law.Goals as goal
 
 pub returns : goal.returns
-returns c = record { the-precondition-is-true-before-exactly-if-the-formula-is-true-after = precondition_law }
+returns c = record { the_precondition_is_true_before_exactly_if_the_formula_is_true_after = precondition_law }

@@ -2,4 +2,4 @@ use Rattle.semantics.proofs.Invariants.{reachable_law}
 use Rattle.semantics.proofs.reachable_law.Goals as goal
 
 pub returns : goal.returns
-returns c = record { every-reachable-state-is-a-state-of-what-is-declared = reachable_law }
+returns c = record { every_reachable_state_is_a_state_of_what_is_declared = reachable_law }

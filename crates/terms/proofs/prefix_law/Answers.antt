@@ -2,4 +2,4 @@ use Rattle.terms.proofs.Tables.{prefix_law}
 use Rattle.terms.proofs.prefix_law.Goals as goal
 
 pub returns : goal.returns
-returns c = record { terms-added-at-the-end-change-no-tree = prefix_law }
+returns c = record { terms_added_at_the_end_change_no_tree = prefix_law }

@@ -2,4 +2,4 @@ use Rattle.terms.proofs.SortLaws.{sorts_law}
 use Rattle.terms.proofs.sorts_law.Goals as goal
 
 pub returns : goal.returns
-returns c = record { the-tree-of-a-term-with-a-sort-has-that-sort = sorts_law }
+returns c = record { the_tree_of_a_term_with_a_sort_has_that_sort = sorts_law }

@@ -4,11 +4,11 @@ use Rattle.text.proofs.Fronts.{counted_more, stopped, ended}
 use Rattle.words.proofs.word_run.Goals as goal
 
 pub loop-n-preserved : goal.loop-n-preserved
-loop-n-preserved c = counted_more no_space _ _ c.loop-n.invariant c.loop-n-test.true (sym c.if-is-no-space.ensures.every-byte-but-the-space)
+loop-n-preserved c = counted_more no_space _ _ c.loop-n.invariant c.loop-n-test.true (sym c.if-is_no_space.ensures.every_byte_but_the_space)
 
-pub returns-else-is-no-space : goal.returns-else-is-no-space
-returns-else-is-no-space c =
-    record { the-bytes-before-the-first-space = stopped no_space _ _ c.loop-n.invariant c.loop-n-test.true (sym c.if-is-no-space.ensures.every-byte-but-the-space); within-the-text = c.loop-n.invariant.0 }
+pub returns-else-is_no_space : goal.returns-else-is_no_space
+returns-else-is_no_space c =
+    record { the_bytes_before_the_first_space = stopped no_space _ _ c.loop-n.invariant c.loop-n-test.true (sym c.if-is_no_space.ensures.every_byte_but_the_space); within_the_text = c.loop-n.invariant.0 }
 
 pub returns-after-loop-n : goal.returns-after-loop-n
-returns-after-loop-n c = record { the-bytes-before-the-first-space = ended no_space _ _ c.loop-n.invariant c.loop-n-test.false; within-the-text = c.loop-n.invariant.0 }
+returns-after-loop-n c = record { the_bytes_before_the_first_space = ended no_space _ _ c.loop-n.invariant c.loop-n-test.false; within_the_text = c.loop-n.invariant.0 }

@@ -9,8 +9,8 @@ use Rattle.layered.proofs.reading.parse.Goals as goal
 pub invariant-of-result : goal.invariant-of-result
 invariant-of-result c =
     let text = c.args.bytes.now in
-    let after = draft_seen c.read-file.new.reader in
+    let after = draft_seen c.read_file.new.reader in
     let said : read_through (λ draft number line. taken draft line) ended begun text ≡ Ok after =
     subst (λ (made : ProtocolV). read_through (λ draft number line. taken draft line) ended (record { row = 0; made = made }) text ≡ Ok after)
-    c.empty.ensures.the-empty-protocol c.in-ok-read-file.ensures.all-its-lines-or-its-first-fault in
+    c.empty.ensures.the_empty_protocol c.in_ok-read_file.ensures.all_its_lines_or_its_first_fault in
     (∣ inl (lawful_whole text after said) ∣₁, tt)

@@ -7,18 +7,18 @@ use Rattle.layered.proofs.reading.read.Goals as goal
 
 pub returns : goal.returns
 returns c =
-    let said = c.in-ok-into.ensures.the-protocol-that-the-file-says-or-its-fault in
+    let said = c.in_ok-into.ensures.the_protocol_that_the_file_says_or_its_fault in
     record {
-      the-protocol-that-the-file-says-or-the-empty-one = said;
-      what-is-read-obeys-all-limits-and-sorts = lawful_read c.args.bytes.now (protocol_seen c.in-ok-into.field-0) said;
+      the_protocol_that_the_file_says_or_the_empty_one = said;
+      what_is_read_obeys_all_limits_and_sorts = lawful_read c.args.bytes.now (protocol_seen c.in_ok-into.field-0) said;
       every_protocol_can_be_kept = every_protocol_can_be_kept;
-      what-is-read-is-its-written-form = written_read c.args.bytes.now (protocol_seen c.in-ok-into.field-0) said;
+      what_is_read_is_its_written_form = written_read c.args.bytes.now (protocol_seen c.in_ok-into.field-0) said;
     }
 
-pub returns-in-err-into : goal.returns-in-err-into
-returns-in-err-into c = record {
-  the-protocol-that-the-file-says-or-the-empty-one = search rules;
-  what-is-read-obeys-all-limits-and-sorts = search rules;
-  what-is-read-is-its-written-form = search rules;
+pub returns-in_err-into : goal.returns-in_err-into
+returns-in_err-into c = record {
+  the_protocol_that_the_file_says_or_the_empty_one = search rules;
+  what_is_read_obeys_all_limits_and_sorts = search rules;
+  what_is_read_is_its_written_form = search rules;
   every_protocol_can_be_kept = every_protocol_can_be_kept;
 }

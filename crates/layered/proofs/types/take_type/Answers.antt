@@ -6,8 +6,8 @@ use Rattle.tables.specs.Views.{types_seen}
 use Rattle.layered.proofs.TypeLaws.{type_room}
 use Rattle.layered.proofs.types.take_type.Goals as goal
 
-pub add-type-requires : goal.add-type-requires
-add-type-requires c =
+pub add_type-requires : goal.add_type-requires
+add_type-requires c =
     let names = c.args.types.now.names in
-    let room = type_room (types_seen c.args.types.now).names (word_seen c.args.name) (word_seen c.args.values) c.in-ok-size.size (sym c.in-ok-size.ensures.its-number-of-values-or-its-fault) in
-    record { one-more-may-stand = omega (arith, room.0, names.ok.0, length-map names.items spelled); few_values = room.1 }
+    let room = type_room (types_seen c.args.types.now).names (word_seen c.args.name) (word_seen c.args.values) c.in_ok-size.size (sym c.in_ok-size.ensures.its_number_of_values_or_its_fault) in
+    record { one_more_may_stand = omega (arith, room.0, names.ok.0, length-map names.items spelled); few_values = room.1 }

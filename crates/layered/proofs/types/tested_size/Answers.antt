@@ -4,8 +4,8 @@ use Rattle.layered.proofs.types.tested_size.Goals as goal
 
 pub overflow-add-result : goal.overflow-add-result
 overflow-add-result c =
-    omega (arith, repeat_inside c.args.values.now c.in-Some.column c.in-Some.ensures.the-column-of-the-first-word-that-stands-further-left-too)
+    omega (arith, repeat_inside c.args.values.now c.in-Some.column c.in-Some.ensures.the_column_of_the_first_word_that_stands_further_left_too)
 
 pub overflow-sub-result : goal.overflow-sub-result
 overflow-sub-result c =
-    omega (arith, repeat_inside c.args.values.now c.in-Some.column c.in-Some.ensures.the-column-of-the-first-word-that-stands-further-left-too)
+    omega (arith, repeat_inside c.args.values.now c.in-Some.column c.in-Some.ensures.the_column_of_the_first_word_that_stands_further_left_too)

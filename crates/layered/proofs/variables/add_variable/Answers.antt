@@ -7,7 +7,7 @@ pub returns : goal.returns
 returns c =
     let was = c.args.variables.now in
     let names =
-    mapped_push spelled (vec_items was.names) (vec_items c.push-reserved.new.self) c.in-ok-name.name c.args.name.now
-    (c.push-reserved.ensures.items ∙ ap (λ ns. ns ++ c.in-ok-name.name ∷ []) c.reserve.ensures.items) c.in-ok-name.ensures.a-name-with-these-bytes in
-    let kinds = c.push-reserved-2.ensures.items ∙ ap (λ ks. ks ++ c.args.row.kind ∷ []) c.reserve-2.ensures.items in
-    record { one-row-more = λ i. record { names = names i; kinds = kinds i; states = c.args.row.states } }
+    mapped_push spelled (vec_items was.names) (vec_items c.push_reserved.new.self) c.in_ok-name.name c.args.name.now
+    (c.push_reserved.ensures.items ∙ ap (λ ns. ns ++ c.in_ok-name.name ∷ []) c.reserve.ensures.items) c.in_ok-name.ensures.a_name_with_these_bytes in
+    let kinds = c.push_reserved-2.ensures.items ∙ ap (λ ks. ks ++ c.args.row.kind ∷ []) c.reserve-2.ensures.items in
+    record { one_row_more = λ i. record { names = names i; kinds = kinds i; states = c.args.row.states } }

@@ -17,26 +17,26 @@ left c =
     let names = c.args.variables.now.names in
     let types = c.args.types.now in
     row_tested (types_seen types) (word_seen c.args.name) (word_seen c.args.of) (variables_seen c.args.variables.now) c.in-Some.kind c.from.result
-    (c.if-is-some.ensures ∙ ap is_some c.number.ensures.its-number-among-the-variables)
-    c.in-Some.ensures.its-number-among-the-types
-    (omega (arith, c.if-len-ge-MOST-VARIABLES.false, names.ok.0, length-map names.items spelled))
-    (c.from.ensures ∙ get_or_read_under types.sizes.items _ types.sizes.len _ 0 c.index.ensures (omega (arith, c.in-Some.ensures.it-is-one-of-them, types.all_sized)) types.sizes.ok.0)
+    (c.if-is_some.ensures ∙ ap is_some c.number.ensures.its_number_among_the_variables)
+    c.in-Some.ensures.its_number_among_the_types
+    (omega (arith, c.if-len-ge-MOST_VARIABLES.false, names.ok.0, length-map names.items spelled))
+    (c.from.ensures ∙ get_or_read_under types.sizes.items _ types.sizes.len _ 0 c.index.ensures (omega (arith, c.in-Some.ensures.it_is_one_of_them, types.all_sized)) types.sizes.ok.0)
 
-pub returns-then-len-ge-MOST-VARIABLES : goal.returns-then-len-ge-MOST-VARIABLES
-returns-then-len-ge-MOST-VARIABLES c = search (rules, length-map)
+pub returns-then-len-ge-MOST_VARIABLES : goal.returns-then-len-ge-MOST_VARIABLES
+returns-then-len-ge-MOST_VARIABLES c = search (rules, length-map)
 
-pub returns-then-states-gt-MOST-STATES : goal.returns-then-states-gt-MOST-STATES
-returns-then-states-gt-MOST-STATES c =
+pub returns-then-states-gt-MOST_STATES : goal.returns-then-states-gt-MOST_STATES
+returns-then-states-gt-MOST_STATES c =
     record {
-      the-row-or-the-fault =
-          sym (cond-true _ _ _ (lt-ltb (2 ^ 40) (c.args.variables.now.states * c.from.result) c.if-states-gt-MOST-STATES.true))
-          ∙ left (goal.at.returns-then-states-gt-MOST-STATES c).After-from;
+      the_row_or_the_fault =
+          sym (cond-true _ _ _ (lt-ltb (2 ^ 40) (c.args.variables.now.states * c.from.result) c.if-states-gt-MOST_STATES.true))
+          ∙ left (goal.at.returns-then-states-gt-MOST_STATES c).After-from;
     }
 
 pub returns : goal.returns
 returns c =
     record {
-      the-row-or-the-fault =
-          sym (cond-false _ _ _ (le-ltb (2 ^ 40) (c.args.variables.now.states * c.from.result) c.if-states-gt-MOST-STATES.false))
+      the_row_or_the_fault =
+          sym (cond-false _ _ _ (le-ltb (2 ^ 40) (c.args.variables.now.states * c.from.result) c.if-states-gt-MOST_STATES.false))
           ∙ left (goal.at.returns c).After-from;
     }

@@ -6,8 +6,8 @@ use Rattle.tables.specs.Views.{types_seen, variables_seen}
 use Rattle.layered.proofs.TypeLaws.{variable_room}
 use Rattle.layered.proofs.variables.take_variable.Goals as goal
 
-pub add-variable-requires : goal.add-variable-requires
-add-variable-requires c =
+pub add_variable-requires : goal.add_variable-requires
+add_variable-requires c =
     let names = c.args.variables.now.names in
-    let room = variable_room (types_seen c.args.types.now) (word_seen c.args.name) (word_seen c.args.of) (variables_seen c.args.variables.now) c.in-ok-row.row (sym c.in-ok-row.ensures.the-row-or-the-fault) in
-    record { one-more-may-stand = omega (arith, room.0, names.ok.0, length-map names.items spelled); few_states = room.1 }
+    let room = variable_room (types_seen c.args.types.now) (word_seen c.args.name) (word_seen c.args.of) (variables_seen c.args.variables.now) c.in_ok-row.row (sym c.in_ok-row.ensures.the_row_or_the_fault) in
+    record { one_more_may_stand = omega (arith, room.0, names.ok.0, length-map names.items spelled); few_states = room.1 }

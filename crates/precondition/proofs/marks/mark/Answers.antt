@@ -10,6 +10,6 @@ loop-n-init c = sym (ap (λ rest. marked_from (length c.args.terms.now) rest c.a
 
 pub loop-n-preserved : goal.loop-n-preserved
 loop-n-preserved c =
-    c.pass-on.ensures.its-arguments-are-marked-if-it-is
+    c.pass_on.ensures.its_arguments_are_marked_if_it_is
     ∙ ap (passed_on (c.loop-n.n - 1) (term_at c.args.terms.now (c.loop-n.n - 1))) c.loop-n.invariant
     ∙ sym (marked_step c.args.terms.now c.args.marks.now c.loop-n.n c.loop-n-test.true c.loop-n.auto.n)

@@ -11,7 +11,7 @@ none = record { variable = 0; term = 0 }
 pub returns-then-set-count : goal.returns-then-set-count
 returns-then-set-count c =
     record {
-      whether-all-are-there =
+      whether_all_are_there =
           sym (and_right _ _
           (sym c.loop-set.invariant
           ∙ ap (all_there c.args.count) (drop_more c.args.sets.now c.loop-set.set-index none c.loop-set-test.true)
@@ -28,7 +28,7 @@ loop-set-preserved c =
 pub returns : goal.returns
 returns c =
     record {
-      whether-all-are-there =
+      whether_all_are_there =
           sym (and_from _ _ (lt-ltb c.args.formula c.args.count c.if-formula-count.false)
           (sym c.loop-set.invariant ∙ ap (all_there c.args.count) (drop_all c.loop-set.set-index c.args.sets.now c.loop-set-test.false)));
     }

@@ -14,7 +14,7 @@ returns-then-set-variable c =
     let v = c.args.variable in
     let i = c.loop-set.set-index in
     record {
-      the-term-of-the-first-assignment =
+      the_term_of_the_first_assignment =
           sym (sym c.loop-set.invariant ∙ ap (λ rest. assigned_term rest v) (drop_more sets i none c.loop-set-test.true) ∙ cond-true _ (Some (get_or sets i none).term) _ (eq-eqb _ _ c.if-set-variable.true));
     }
 
@@ -29,6 +29,6 @@ loop-set-preserved c =
 pub returns : goal.returns
 returns c =
     record {
-      the-term-of-the-first-assignment =
+      the_term_of_the_first_assignment =
           sym (sym c.loop-set.invariant ∙ ap (λ rest. assigned_term rest c.args.variable) (drop_all c.loop-set.set-index c.args.sets.now c.loop-set-test.false));
     }

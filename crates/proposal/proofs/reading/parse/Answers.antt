@@ -29,32 +29,32 @@ lawful_terms p =
     (λ none. subst (λ (q : ProtocolV). LawfulTerms (declared_by q.types q.variables) q.terms) (sym none) (lawful_no_terms (declared_by (protocol.empty).types (protocol.empty).variables)))
 
 -- what was read of the file
-was_read : (c : In-ok-parts) → read_through taken ended (begun (protocol_seen c.args.protocol.now)) c.args.bytes.now ≡ Ok (draft_seen c.read-file.new.reader)
+was_read : (c : In-ok-parts) → read_through taken ended (begun (protocol_seen c.args.protocol.now)) c.args.bytes.now ≡ Ok (draft_seen c.read_file.new.reader)
 was_read c =
-    ap (λ (d : Draft). read_through taken ended d c.args.bytes.now) (sym c.in-ok-reader.ensures.nothing-is-read)
-    ∙ c.in-ok-read-file.ensures.all-its-lines-or-its-first-fault
+    ap (λ (d : Draft). read_through taken ended d c.args.bytes.now) (sym c.in_ok-reader.ensures.nothing_is_read)
+    ∙ c.in_ok-read_file.ensures.all_its_lines_or_its_first_fault
 
 -- what is left of it
-was_left : (c : In-ok-parts) → finished (protocol_seen c.args.protocol.now) (draft_seen c.read-file.new.reader).made ≡ parts_seen c.in-ok-parts.parts
+was_left : (c : In-ok-parts) → finished (protocol_seen c.args.protocol.now) (draft_seen c.read_file.new.reader).made ≡ parts_seen c.in_ok-parts.parts
 was_left c =
-    let d = draft_seen c.read-file.new.reader in
+    let d = draft_seen c.read_file.new.reader in
     ap (λ p. finished p d.made) (protocol_read (protocol_seen c.args.protocol.now) c.args.bytes.now d (was_read c))
-    ∙ sym c.in-ok-parts.ensures.the-terms-behind-those-of-the-protocol
+    ∙ sym c.in_ok-parts.ensures.the_terms_behind_those_of_the_protocol
 
-lawful : (c : In-ok-parts) → ∥ LawfulWith (protocol_seen c.args.protocol.now) (parts_seen c.in-ok-parts.parts) ∥₁
+lawful : (c : In-ok-parts) → ∥ LawfulWith (protocol_seen c.args.protocol.now) (parts_seen c.in_ok-parts.parts) ∥₁
 lawful c =
     let p = protocol_seen c.args.protocol.now in
     ∥∥₁_map c.args.protocol.now.lawful_or_empty (λ either.
-    subst (LawfulWith p) (was_left c) (lawful_read p c.args.bytes.now (draft_seen c.read-file.new.reader) (lawful_terms p either) (was_read c)))
+    subst (LawfulWith p) (was_left c) (lawful_read p c.args.bytes.now (draft_seen c.read_file.new.reader) (lawful_terms p either) (was_read c)))
 
 -- and it is written with the file's bytes
-written_again : (c : In-ok-parts) → written (protocol_seen c.args.protocol.now) (parts_seen c.in-ok-parts.parts) ≡ c.args.bytes.now
+written_again : (c : In-ok-parts) → written (protocol_seen c.args.protocol.now) (parts_seen c.in_ok-parts.parts) ≡ c.args.bytes.now
 written_again c =
     let p = protocol_seen c.args.protocol.now in
     let text = c.args.bytes.now in
-    let q = parts_seen c.in-ok-parts.parts in
+    let q = parts_seen c.in_ok-parts.parts in
     ∥∥₁_elim c.args.protocol.now.lawful_or_empty (is_set ℕ_set (written p q) text) (λ either.
-    subst (λ made. written p made ≡ text) (was_left c) (left_written p (lawful_terms p either) text (draft_seen c.read-file.new.reader) (was_read c)))
+    subst (λ made. written p made ≡ text) (was_left c) (left_written p (lawful_terms p either) text (draft_seen c.read_file.new.reader) (was_read c)))
 
 pub invariant-of-result : goal.invariant-of-result
 invariant-of-result c =
@@ -65,7 +65,7 @@ returns c =
     let come = (goal.at.returns c).In-ok-parts in
     let p = protocol_seen c.args.protocol.now in
     record {
-      the-proposal-that-the-file-says-or-its-fault = ap (λ r. bind r (λ draft. Ok (finished p draft.made))) (was_read come) ∙ ap Ok (was_left come);
-      what-is-read-obeys-all-limits-and-sorts = lawful come;
-      what-is-read-is-its-written-form = written_again come;
+      the_proposal_that_the_file_says_or_its_fault = ap (λ r. bind r (λ draft. Ok (finished p draft.made))) (was_read come) ∙ ap Ok (was_left come);
+      what_is_read_obeys_all_limits_and_sorts = lawful come;
+      what_is_read_is_its_written_form = written_again come;
     }

@@ -3,22 +3,22 @@ use Rattle.proposal.proofs.Again.{proposal_kept}
 use Rattle.proposal.proofs.ReadBack.{proposal_written}
 use Rattle.proposal.proofs.reading.read.Goals as goal
 
-pub returns-in-err-into : goal.returns-in-err-into
-returns-in-err-into c = record {
-  the-proposal-that-the-file-says-or-the-empty-one = search rules;
-  what-is-read-obeys-all-limits-and-sorts = search rules;
-  what-is-read-is-its-written-form = search rules;
-  nothing-is-lost-and-nothing-is-invented = proposal_written;
-  every-proposal-can-be-kept = proposal_kept;
+pub returns-in_err-into : goal.returns-in_err-into
+returns-in_err-into c = record {
+  the_proposal_that_the_file_says_or_the_empty_one = search rules;
+  what_is_read_obeys_all_limits_and_sorts = search rules;
+  what_is_read_is_its_written_form = search rules;
+  nothing_is_lost_and_nothing_is_invented = proposal_written;
+  every_proposal_can_be_kept = proposal_kept;
 }
 
 pub returns : goal.returns
 returns c =
-    let read = c.in-ok-into.ensures in
+    let read = c.in_ok-into.ensures in
     record {
-      the-proposal-that-the-file-says-or-the-empty-one = read.the-proposal-that-the-file-says-or-its-fault;
-      what-is-read-obeys-all-limits-and-sorts = read.what-is-read-obeys-all-limits-and-sorts;
-      what-is-read-is-its-written-form = read.what-is-read-is-its-written-form;
-      nothing-is-lost-and-nothing-is-invented = proposal_written;
-      every-proposal-can-be-kept = proposal_kept;
+      the_proposal_that_the_file_says_or_the_empty_one = read.the_proposal_that_the_file_says_or_its_fault;
+      what_is_read_obeys_all_limits_and_sorts = read.what_is_read_obeys_all_limits_and_sorts;
+      what_is_read_is_its_written_form = read.what_is_read_is_its_written_form;
+      nothing_is_lost_and_nothing_is_invented = proposal_written;
+      every_proposal_can_be_kept = proposal_kept;
     }

@@ -9,4 +9,4 @@ each : (x y : Term) (t : Bool) → ghosts.equals x y t → Decides t (x ≡ y)
 each x y t h = search rules
 
 pub returns : goal.returns
-returns c = record { whether-they-are-the-same = listed_decides ghosts.equals _ _ _ c.eq.ensures each }
+returns c = record { whether_they_are_the_same = listed_decides ghosts.equals _ _ _ c.eq.ensures each }

@@ -5,9 +5,9 @@ use Rattle.protocol.proofs.copying.copy_lists.Goals as goal
 
 pub loop-i-preserved : goal.loop-i-preserved
 loop-i-preserved c =
-    copied_more (λ list. map spelled (vec_items list)) _ _ _ _ c.index-lists-i.result c.in-ok-copy-names.field-0 c.loop-i.invariant c.loop-i-test.true c.index-lists-i.is
-    (c.in-ok-copy-names.ensures.names-spelled-the-same ∙ ap (map spelled) c.as-slice.ensures.value) c.in-ok-push.ensures.items
+    copied_more (λ list. map spelled (vec_items list)) _ _ _ _ c.index-lists-i.result c.in_ok-copy_names.field-0 c.loop-i.invariant c.loop-i-test.true c.index-lists-i.is
+    (c.in_ok-copy_names.ensures.names_spelled_the_same ∙ ap (map spelled) c.as_slice.ensures.value) c.in_ok-push.ensures.items
 
 pub returns : goal.returns
 returns c =
-    record { lists-of-names-spelled-the-same = copied_all (λ list. map spelled (vec_items list)) _ _ _ c.loop-i.invariant c.loop-i-test.false }
+    record { lists_of_names_spelled_the_same = copied_all (λ list. map spelled (vec_items list)) _ _ _ c.loop-i.invariant c.loop-i-test.false }

@@ -7,7 +7,7 @@ use Rattle.protocol.proofs.lookups.number_in.Goals.{In-Some}
 -- a name that is found has a number below theirs
 below : (c : In-Some) → c.in-Some.i < length (map spelled (vec_items c.args.names.now))
 below c =
-    let found = c.in-Some.ensures.found-is-so-named-and-none-means-no-row-is.0 in
+    let found = c.in-Some.ensures.found_is_so_named_and_none_means_no_row_is.0 in
     subst (λ n. c.in-Some.i < n) (ap length c.deref.ensures.value ∙ sym (length-map (vec_items c.args.names.now) spelled)) found
 
 pub overflow-cast-result : goal.overflow-cast-result
@@ -16,7 +16,7 @@ overflow-cast-result c = let inside = below (goal.at.overflow-cast-result c).In-
 pub returns-in-Some : goal.returns-in-Some
 returns-in-Some c =
     record {
-      its-number-among-the-names =
-          c.in-Some.ensures.the-number-of-the-first-so-named ∙ ap (λ rows. place_in (map spelled rows) c.args.name.now) c.deref.ensures.value;
-      it-is-one-of-them = below (goal.at.returns-in-Some c).In-Some;
+      its_number_among_the_names =
+          c.in-Some.ensures.the_number_of_the_first_so_named ∙ ap (λ rows. place_in (map spelled rows) c.args.name.now) c.deref.ensures.value;
+      it_is_one_of_them = below (goal.at.returns-in-Some c).In-Some;
     }

@@ -9,24 +9,24 @@ read_there : (c : After-index) → get_or (map (λ v. map spelled (vec_items v))
 read_there c =
     let rows = vec_items c.args.types.now.values in
     let long : length (map (λ v. map spelled (vec_items v)) rows) ≡ length rows = length-map rows (λ v. map spelled (vec_items v)) in
-    get_or-map (λ v. map spelled (vec_items v)) rows c.args.kind c.index.result.now [] (omega (arith, long, c.requires.the-types-fit.all_valued, c.requires.a-type))
+    get_or-map (λ v. map spelled (vec_items v)) rows c.args.kind c.index.result.now [] (omega (arith, long, c.requires.the_types_fit.all_valued, c.requires.a_type))
     ∙ ap (λ v. map spelled (vec_items v)) (sym c.index.ensures)
 
 pub index-requires : goal.index-requires
 index-requires c =
     let rows = vec_items c.args.types.now.values in
     let long : length (map (λ v. map spelled (vec_items v)) rows) ≡ length rows = length-map rows (λ v. map spelled (vec_items v)) in
-    omega (arith, long, c.args.types.now.values.ok.0, c.requires.the-types-fit.all_valued, c.requires.a-type)
+    omega (arith, long, c.args.types.now.values.ok.0, c.requires.the_types_fit.all_valued, c.requires.a_type)
 
-pub number-in-requires : goal.number-in-requires
-number-in-requires c =
-    let few = c.requires.the-types-fit.few_values c.args.kind in
-    let same = ap length (read_there (goal.at.number-in-requires c).After-index) in
+pub number_in-requires : goal.number_in-requires
+number_in-requires c =
+    let few = c.requires.the_types_fit.few_values c.args.kind in
+    let same = ap length (read_there (goal.at.number_in-requires c).After-index) in
     record { few = omega (arith, few, same) }
 
 pub returns : goal.returns
 returns c =
     record {
-      its-number-among-the-values =
-          c.number-in.ensures.its-number-among-the-names ∙ ap (λ names. place_in names c.args.value.now) (sym (read_there (goal.at.returns c).After-index));
+      its_number_among_the_values =
+          c.number_in.ensures.its_number_among_the_names ∙ ap (λ names. place_in names c.args.value.now) (sym (read_there (goal.at.returns c).After-index));
     }

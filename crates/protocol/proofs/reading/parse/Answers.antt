@@ -4,4 +4,4 @@ use Rattle.protocol.proofs.LawWhole.{lawful_walk}
 use Rattle.protocol.proofs.reading.parse.Goals as goal
 
 pub invariant-of-result : goal.invariant-of-result
-invariant-of-result c = (∣ inl (lawful_walk c.args.bytes.now (draft_seen c.walk.new.reader) c.in-ok-walk.ensures.every-line-in-turn) ∣₁, tt)
+invariant-of-result c = (∣ inl (lawful_walk c.args.bytes.now (draft_seen c.walk.new.reader) c.in_ok-walk.ensures.every_line_in_turn) ∣₁, tt)

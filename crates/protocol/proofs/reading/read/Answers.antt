@@ -4,8 +4,8 @@ use Rattle.protocol.proofs.reading.read.Goals as goal
 
 pub returns : goal.returns
 returns c =
-    let said = c.in-ok-into.ensures.the-protocol-that-the-file-says-or-its-fault in
+    let said = c.in_ok-into.ensures.the_protocol_that_the_file_says_or_its_fault in
     record {
-      the-protocol-that-the-file-says-or-the-empty-one = said;
-      what-is-read-obeys-all-limits-and-sorts = lawful_read c.args.bytes.now (protocol_seen c.in-ok-into.field-0) said;
+      the_protocol_that_the_file_says_or_the_empty_one = said;
+      what_is_read_obeys_all_limits_and_sorts = lawful_read c.args.bytes.now (protocol_seen c.in_ok-into.field-0) said;
     }

@@ -6,4 +6,4 @@ use Rattle.protocol.proofs.types.is_full.Goals as goal
 pub returns : goal.returns
 returns c =
     let names = c.args.names.now in
-    record { whether-there-are-eight = ap (leb 8) (c.len.ensures ∙ names.ok.0 ∙ sym (length-map (vec_items names) spelled)) }
+    record { whether_there_are_eight = ap (leb 8) (c.len.ensures ∙ names.ok.0 ∙ sym (length-map (vec_items names) spelled)) }

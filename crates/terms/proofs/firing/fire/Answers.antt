@@ -6,24 +6,24 @@ use Rattle.terms.specs.Rules.{set_value}
 use Rattle.terms.proofs.Assigned.{fires, not_fires}
 use Rattle.terms.proofs.firing.fire.Goals as goal
 
-pub returns-then-counts-as-true : goal.returns-then-counts-as-true
-returns-then-counts-as-true c =
-    let values = vec_items c.in-ok-values.values in
+pub returns-then-counts_as_true : goal.returns-then-counts_as_true
+returns-then-counts_as_true c =
+    let values = vec_items c.in_ok-values.values in
     let yes' : is_true (value_at values c.args.guard) ≡ true =
-    sym (c.if-counts-as-true.ensures.not-zero ∙ ap is_true (c.value-of-number.ensures.its-value-or-that-of-no-term ∙ ap (λ xs. value_at xs c.args.guard) c.as-slice.ensures.value)) in
+    sym (c.if-counts_as_true.ensures.not_zero ∙ ap is_true (c.value_of_number.ensures.its_value_or_that_of_no_term ∙ ap (λ xs. value_at xs c.args.guard) c.as_slice.ensures.value)) in
     record {
-      the-state-after-the-rule-if-its-guard-is-true =
-          fires c.args.terms.now c.args.guard c.args.sets.now c.args.state.now values c.in-ok-values.ensures.the-values-of-the-trees _
-          (c.in-ok-assign.ensures.each-variable-has-its-next-value ∙ ap (λ xs. map (set_value xs c.args.state.now c.args.sets.now) (range_with_len 0 (length c.args.state.now))) c.as-slice-then-counts-as-true.ensures.value)
+      the_state_after_the_rule_if_its_guard_is_true =
+          fires c.args.terms.now c.args.guard c.args.sets.now c.args.state.now values c.in_ok-values.ensures.the_values_of_the_trees _
+          (c.in_ok-assign.ensures.each_variable_has_its_next_value ∙ ap (λ xs. map (set_value xs c.args.state.now c.args.sets.now) (range_with_len 0 (length c.args.state.now))) c.as_slice-then-counts_as_true.ensures.value)
           yes';
     }
 
 pub returns : goal.returns
 returns c =
-    let values = vec_items c.in-ok-values.values in
+    let values = vec_items c.in_ok-values.values in
     let no' : is_true (value_at values c.args.guard) ≡ false =
-    sym (c.if-counts-as-true.ensures.not-zero ∙ ap is_true (c.value-of-number.ensures.its-value-or-that-of-no-term ∙ ap (λ xs. value_at xs c.args.guard) c.as-slice.ensures.value)) in
+    sym (c.if-counts_as_true.ensures.not_zero ∙ ap is_true (c.value_of_number.ensures.its_value_or_that_of_no_term ∙ ap (λ xs. value_at xs c.args.guard) c.as_slice.ensures.value)) in
     record {
-      the-state-after-the-rule-if-its-guard-is-true =
-          not_fires c.args.terms.now c.args.guard c.args.sets.now c.args.state.now values c.in-ok-values.ensures.the-values-of-the-trees no';
+      the_state_after_the_rule_if_its_guard_is_true =
+          not_fires c.args.terms.now c.args.guard c.args.sets.now c.args.state.now values c.in_ok-values.ensures.the_values_of_the_trees no';
     }

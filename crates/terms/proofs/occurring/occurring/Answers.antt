@@ -10,10 +10,10 @@ pub loop-variable-preserved : goal.loop-variable-preserved
 loop-variable-preserved c =
     let v = c.loop-variable.variable in
     let all = trees c.args.terms.now in
-    let here : c.occurs-in-number.result ≡ occurs v (tree_at all c.args.term) =
-    c.occurs-in-number.ensures.in-that-term
-    ∙ ap (λ flags. occurs_at flags c.args.term) (c.as-slice.ensures.value ∙ c.in-ok-flags.ensures.what-each-tree-is-read-as)
+    let here : c.occurs_in_number.result ≡ occurs v (tree_at all c.args.term) =
+    c.occurs_in_number.ensures.in_that_term
+    ∙ ap (λ flags. occurs_at flags c.args.term) (c.as_slice.ensures.value ∙ c.in_ok-flags.ensures.what_each_tree_is_read_as)
     ∙ read_at (occurs v) all c.args.term in
-    c.in-ok-push.ensures.items
+    c.in_ok-push.ensures.items
     ∙ ap₂ (λ xs x. xs ++ x ∷ []) c.loop-variable.invariant here
     ∙ sym (map-range_with_len_more (λ w. occurs w (tree_at all c.args.term)) 0 v v (omega arith))

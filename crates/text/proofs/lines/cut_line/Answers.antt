@@ -6,6 +6,6 @@ use Rattle.text.proofs.lines.cut_line.Goals as goal
 
 pub returns : goal.returns
 returns c = record {
-  the-line-and-the-rest-or-the-fault = search (rules, take_rest);
-  put-together-they-are-the-text = rw (sub-zero, take_rest) (put_together _ _ 10 c.if-n-text.false c.if-text-n-ne10.false);
+  the_line_and_the_rest_or_the_fault = search (rules, take_rest);
+  put_together_they_are_the_text = rw (sub-zero, take_rest) (put_together _ _ 10 c.if-n-text.false c.if-text-n-ne10.false);
 }

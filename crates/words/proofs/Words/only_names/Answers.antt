@@ -7,22 +7,22 @@ use Rattle.words.proofs.Words.only_names.Goals as goal
 
 pub loop-self-smaller : goal.loop-self-smaller
 loop-self-smaller c =
-    reach_falls (place c.loop-self.self) (place c.name.new.self) c.name.ensures.where-the-next-begins
-    (ltb-false _ _ (sym c.loop-self-test.ensures.whether-no-word-is-left))
+    reach_falls (place c.loop-self.self) (place c.name.new.self) c.name.ensures.where_the_next_begins
+    (ltb-false _ _ (sym c.loop-self-test.ensures.whether_no_word_is_left))
 
 pub loop-self-preserved : goal.loop-self-preserved
 loop-self-preserved c =
-    names_more (place c.loop-self.self) (place c.name.new.self) c.name.ensures.where-the-next-begins
-    (ltb-false _ _ (sym c.loop-self-test.ensures.whether-no-word-is-left)) (word_seen c.in-ok-name.field-0) c.in-ok-name.ensures.the-name-or-the-fault
+    names_more (place c.loop-self.self) (place c.name.new.self) c.name.ensures.where_the_next_begins
+    (ltb-false _ _ (sym c.loop-self-test.ensures.whether_no_word_is_left)) (word_seen c.in_ok-name.field-0) c.in_ok-name.ensures.the_name_or_the_fault
     ∙ c.loop-self.invariant
 
-pub returns-in-err-name : goal.returns-in-err-name
-returns-in-err-name c =
+pub returns-in_err-name : goal.returns-in_err-name
+returns-in_err-name c =
     let p = err_from_is_err_and c.from-residual.result c.from-residual.ensures.1 in
     record {
-      all-are-names-or-the-first-that-is-none =
+      all_are_names_or_the_first_that_is_none =
           p.1 ∙ ap Err p.2
-          ∙ names_stop (place c.loop-self.self) (place c.name.new.self) c.name.ensures.where-the-next-begins
-          (ltb-false _ _ (sym c.loop-self-test.ensures.whether-no-word-is-left)) c.in-err-name.field-0.0 c.in-err-name.ensures.the-name-or-the-fault
+          ∙ names_stop (place c.loop-self.self) (place c.name.new.self) c.name.ensures.where_the_next_begins
+          (ltb-false _ _ (sym c.loop-self-test.ensures.whether_no_word_is_left)) c.in_err-name.field-0.0 c.in_err-name.ensures.the_name_or_the_fault
           ∙ c.loop-self.invariant;
     }

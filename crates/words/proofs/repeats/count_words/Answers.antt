@@ -5,8 +5,8 @@ use Rattle.words.proofs.repeats.count_words.Goals as goal
 
 pub overflow-add-n : goal.overflow-add-n
 overflow-add-n c =
-    omega (arith, few c.args.text.now, ap length (left_more (place c.loop-n.words) (place c.next-word.new.self) c.next-word.ensures.where-the-next-begins (word_seen c.in-Ok.field-0) c.in-Ok.ensures.the-word-or-that-it-is-missing))
+    omega (arith, few c.args.text.now, ap length (left_more (place c.loop-n.words) (place c.next_word.new.self) c.next_word.ensures.where_the_next_begins (word_seen c.in-Ok.field-0) c.in-Ok.ensures.the_word_or_that_it_is_missing))
 
 pub loop-n-preserved : goal.loop-n-preserved
 loop-n-preserved c =
-    omega (arith, ap length (left_more (place c.loop-n.words) (place c.next-word.new.self) c.next-word.ensures.where-the-next-begins (word_seen c.in-Ok.field-0) c.in-Ok.ensures.the-word-or-that-it-is-missing))
+    omega (arith, ap length (left_more (place c.loop-n.words) (place c.next_word.new.self) c.next_word.ensures.where_the_next_begins (word_seen c.in-Ok.field-0) c.in-Ok.ensures.the_word_or_that_it_is_missing))

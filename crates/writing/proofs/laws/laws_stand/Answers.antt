@@ -6,9 +6,9 @@ use Rattle.writing.proofs.laws.laws_stand.Goals as goal
 
 pub returns : goal.returns
 returns c = record {
-  a-line-that-is-read-has-the-bytes-that-are-written = nothing_is_lost;
-  a-line-that-is-read-says-something-sound = only_sound_lines_are_read;
-  a-sound-line-that-is-written-is-read-and-says-the-same = every_line_can_be_kept;
-  the-bytes-of-a-sound-line-may-stand-in-a-file = every_byte_may_stand;
-  sound-lines-come-apart-at-their-line-feeds = lines_come_apart;
+  a_line_that_is_read_has_the_bytes_that_are_written = nothing_is_lost;
+  a_line_that_is_read_says_something_sound = only_sound_lines_are_read;
+  a_sound_line_that_is_written_is_read_and_says_the_same = every_line_can_be_kept;
+  the_bytes_of_a_sound_line_may_stand_in_a_file = every_byte_may_stand;
+  sound_lines_come_apart_at_their_line_feeds = lines_come_apart;
 }

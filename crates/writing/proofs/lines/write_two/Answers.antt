@@ -3,4 +3,4 @@ use Rattle.writing.proofs.Appends.{behind_first}
 use Rattle.writing.proofs.lines.write_two.Goals as goal
 
 pub returns : goal.returns
-returns c = record { both_words = behind_first c.write-next-word.result (vec_items c.args.out.now) c.args.first.now (c.args.second.now ∷ []) (vec_items c.write-word.new.out) (vec_items c.write-next-word.new.out) c.in-ok-write-word.ensures.the_word c.write-next-word.ensures.a-space-and-the-word }
+returns c = record { both_words = behind_first c.write_next_word.result (vec_items c.args.out.now) c.args.first.now (c.args.second.now ∷ []) (vec_items c.write_word.new.out) (vec_items c.write_next_word.new.out) c.in_ok-write_word.ensures.the_word c.write_next_word.ensures.a_space_and_the_word }

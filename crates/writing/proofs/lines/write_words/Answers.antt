@@ -10,7 +10,7 @@ returns-in-Type c =
     let name = c.in-Type.name.bytes.now in
     let values = c.in-Type.values.bytes.now in
     record {
-      the-words-with-single-spaces =
-          appended_same c.write-two.result (vec_items c.args.out.now) (spaced (name ∷ values ∷ [])) _ (vec_items c.write-two.new.out)
-          (values_spaced name values ∙ ap (λ l. spaced (words_said c.args.file (said (line_seen l)))) (sym c.in-Type.is)) c.write-two.ensures.both_words;
+      the_words_with_single_spaces =
+          appended_same c.write_two.result (vec_items c.args.out.now) (spaced (name ∷ values ∷ [])) _ (vec_items c.write_two.new.out)
+          (values_spaced name values ∙ ap (λ l. spaced (words_said c.args.file (said (line_seen l)))) (sym c.in-Type.is)) c.write_two.ensures.both_words;
     }

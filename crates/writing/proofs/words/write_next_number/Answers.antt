@@ -7,7 +7,7 @@ pub returns : goal.returns
 returns c =
     let word = written_number c.args.n in
     record {
-      a-space-and-the-number =
-          appended_then c.write-number.result (vec_items c.args.out.now) (32 ∷ []) word (vec_items c.push.new.self) (vec_items c.write-number.new.out) (each_spaced (word ∷ []))
-          c.in-ok-push.ensures.items c.write-number.ensures.the-digits-of-the-number (ap (λ l. 32 ∷ l) (sym (append-nil word)));
+      a_space_and_the_number =
+          appended_then c.write_number.result (vec_items c.args.out.now) (32 ∷ []) word (vec_items c.push.new.self) (vec_items c.write_number.new.out) (each_spaced (word ∷ []))
+          c.in_ok-push.ensures.items c.write_number.ensures.the_digits_of_the_number (ap (λ l. 32 ∷ l) (sym (append-nil word)));
     }

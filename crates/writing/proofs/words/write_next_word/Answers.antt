@@ -7,7 +7,7 @@ pub returns : goal.returns
 returns c =
     let word = c.args.word.now in
     record {
-      a-space-and-the-word =
-          appended_then c.write-word.result (vec_items c.args.out.now) (32 ∷ []) word (vec_items c.push.new.self) (vec_items c.write-word.new.out) (each_spaced (word ∷ []))
-          c.in-ok-push.ensures.items c.write-word.ensures.the_word (ap (λ l. 32 ∷ l) (sym (append-nil word)));
+      a_space_and_the_word =
+          appended_then c.write_word.result (vec_items c.args.out.now) (32 ∷ []) word (vec_items c.push.new.self) (vec_items c.write_word.new.out) (each_spaced (word ∷ []))
+          c.in_ok-push.ensures.items c.write_word.ensures.the_word (ap (λ l. 32 ∷ l) (sym (append-nil word)));
     }

@@ -33,17 +33,17 @@ module _ (p : ProtocolV) (rules : List Rule) (same : map rule_seen rules ≡ p.r
 pub returns-then-number-rules : goal.returns-then-number-rules
 returns-then-number-rules c =
     record {
-      the-state-after-the-rule-if-it-fires =
-          none (protocol_seen c.args.self.now) c.rules-rules.result.now c.rules-rules.ensures.the-rules-in-order c.args.number c.args.state.now c.if-number-rules.true;
+      the_state_after_the_rule_if_it_fires =
+          none (protocol_seen c.args.self.now) c.rules-rules.result.now c.rules-rules.ensures.the_rules_in_order c.args.number c.args.state.now c.if-number-rules.true;
     }
 
 pub returns : goal.returns
 returns c =
     let p = protocol_seen c.args.self.now in
     let same =
-    fires p c.rules-rules.result.now c.rules-rules.ensures.the-rules-in-order c.args.number c.args.state.now c.index-rules-number.result c.as-slice.result.now c.as-slice-2.result.now
-    c.if-number-rules.false c.index-rules-number.is (c.as-slice.ensures.value ∙ ap (λ t. t.terms) c.terms.ensures.the-terms-of-the-protocol) c.as-slice-2.ensures.value in
+    fires p c.rules-rules.result.now c.rules-rules.ensures.the_rules_in_order c.args.number c.args.state.now c.index-rules-number.result c.as_slice.result.now c.as_slice-2.result.now
+    c.if-number-rules.false c.index-rules-number.is (c.as_slice.ensures.value ∙ ap (λ t. t.terms) c.terms.ensures.the_terms_of_the_protocol) c.as_slice-2.ensures.value in
     record {
-      the-state-after-the-rule-if-it-fires =
-          subst (λ o. IfOk c.fire.result (λ next. option_map vec_items next ≡ o)) same c.fire.ensures.the-state-after-the-rule-if-its-guard-is-true;
+      the_state_after_the_rule_if_it_fires =
+          subst (λ o. IfOk c.fire.result (λ next. option_map vec_items next ≡ o)) same c.fire.ensures.the_state_after_the_rule_if_its_guard_is_true;
     }

@@ -14,6 +14,6 @@ returns c =
     ∥∥₁_elim self.lawful_or_empty le_prop
     (⊎_elim (λ lawful. lawful.obeys.rules.few) (λ none. omega (arith, ap (λ (p : ProtocolV). length p.rules) none))) in
     record {
-      the-rules-in-order = ap (map rule_seen) c.as-slice.ensures.value;
-      at-most-64 = omega (arith, few, ap length c.as-slice.ensures.value, length-map self.parts.rules.rules.items rule_seen);
+      the_rules_in_order = ap (map rule_seen) c.as_slice.ensures.value;
+      at_most_64 = omega (arith, few, ap length c.as_slice.ensures.value, length-map self.parts.rules.rules.items rule_seen);
     }

@@ -3,12 +3,12 @@ use Rattle.line.specs.Lines.{line_seen}
 use Rattle.layered.proofs.Columns.{rest_shorter, within_a_line}
 use Rattle.layered.proofs.taking.ProtocolReaderReader.take.Goals as goal
 
-pub take-line-requires : goal.take-line-requires
-take-line-requires c =
-    let shorter = rest_shorter c.args.line.now c.in-ok-key.rest.now c.in-ok-key.key (sym c.in-ok-key.ensures.the-key-and-what-follows-or-the-fault) in
+pub take_line-requires : goal.take_line-requires
+take_line-requires c =
+    let shorter = rest_shorter c.args.line.now c.in_ok-key.rest.now c.in_ok-key.key (sym c.in_ok-key.ensures.the_key_and_what_follows_or_the_fault) in
     let held : length c.args.line.now < 2 ^ 63 = omega arith in
     record {
       within_a_line =
-          within_a_line c.in-ok-key.key c.in-ok-key.rest.now (line_seen c.in-ok-words.words) (omega arith)
-          (sym c.in-ok-words.ensures.the-line-or-the-fault);
+          within_a_line c.in_ok-key.key c.in_ok-key.rest.now (line_seen c.in_ok-words.words) (omega arith)
+          (sym c.in_ok-words.ensures.the_line_or_the_fault);
     }

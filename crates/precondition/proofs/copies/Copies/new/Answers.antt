@@ -16,38 +16,38 @@ loop-n-init c = (c.new-lowest.ensures.items ∙ sym (ap (λ ts. map (place ts) t
 pub overflow-cast-place : goal.overflow-cast-place
 overflow-cast-place c =
     let terms = c.args.terms.now in
-    let many : length c.as-slice-in-loop-n.result.now ≡ c.loop-n.n =
-    ap length (c.as-slice-in-loop-n.ensures.value ∙ c.loop-n.invariant.1)
+    let many : length c.as_slice-in-loop-n.result.now ≡ c.loop-n.n =
+    ap length (c.as_slice-in-loop-n.ensures.value ∙ c.loop-n.invariant.1)
     ∙ length-map (take c.loop-n.n terms) (renamed (λ a. get_or (lowest (take c.loop-n.n terms)) a 0))
     ∙ length-take-le c.loop-n.n terms (omega (arith, c.loop-n-test.true)) in
-    omega (arith, many, c.find-place.ensures.its-first-place.within, c.loop-n-test.true, c.if-terms-gt-MOST-TERMS.false)
+    omega (arith, many, c.find-place.ensures.its_first_place.within, c.loop-n-test.true, c.if-terms-gt-MOST_TERMS.false)
 
 pub loop-n-preserved : goal.loop-n-preserved
 loop-n-preserved c =
     let terms = c.args.terms.now in
     let n = c.loop-n.n in
-    let is : formed terms ≡ true = sym c.if-not-is-formed.ensures.each-argument-is-earlier in
+    let is : formed terms ≡ true = sym c.if-not-is_formed.ensures.each_argument_is_earlier in
     let inside : n < length terms = c.loop-n-test.true in
     let next_is : c.rename-next.result ≡ renamed (λ a. get_or (lowest (take n terms)) a 0) (term_at terms n) =
-    c.rename-next.ensures.each-argument-by-its-result ∙ ap (λ xs. renamed (λ a. get_or xs a 0) (term_at terms n)) (c.as-slice.ensures.value ∙ c.loop-n.invariant.0) in
+    c.rename-next.ensures.each_argument_by_its_result ∙ ap (λ xs. renamed (λ a. get_or xs a 0) (term_at terms n)) (c.as_slice.ensures.value ∙ c.loop-n.invariant.0) in
     let place_is : c.find-place.result ≡ place (trees (take n terms)) (tree_of (trees (take n terms)) (term_at terms n)) =
     next_place terms n is inside c.find-place.result
-    (subst₂ (λ xs x. First xs x c.find-place.result) (c.as-slice-in-loop-n.ensures.value ∙ c.loop-n.invariant.1) next_is c.find-place.ensures.its-first-place) in (
-      c.in-ok-push.ensures.items ∙ ap₂ (λ xs x. xs ++ x ∷ []) c.loop-n.invariant.0 place_is ∙ sym (lowest_more terms n is inside),
-      c.in-ok-push-2.ensures.items ∙ ap₂ (λ xs x. xs ++ x ∷ []) c.loop-n.invariant.1 next_is ∙ sym (named_more terms n is inside),
+    (subst₂ (λ xs x. First xs x c.find-place.result) (c.as_slice-in-loop-n.ensures.value ∙ c.loop-n.invariant.1) next_is c.find-place.ensures.its_first_place) in (
+      c.in_ok-push.ensures.items ∙ ap₂ (λ xs x. xs ++ x ∷ []) c.loop-n.invariant.0 place_is ∙ sym (lowest_more terms n is inside),
+      c.in_ok-push-2.ensures.items ∙ ap₂ (λ xs x. xs ++ x ∷ []) c.loop-n.invariant.1 next_is ∙ sym (named_more terms n is inside),
     )
 
 pub invariant-of-result : goal.invariant-of-result
 invariant-of-result c =
     let all = take_all c.loop-n.n c.args.terms.now c.loop-n-test.false in (
-      c.if-terms-gt-MOST-TERMS.false,
-      (sym c.if-not-is-formed.ensures.each-argument-is-earlier, (c.loop-n.invariant.0 ∙ ap lowest all, (c.loop-n.invariant.1 ∙ ap named all, tt))),
+      c.if-terms-gt-MOST_TERMS.false,
+      (sym c.if-not-is_formed.ensures.each_argument_is_earlier, (c.loop-n.invariant.0 ∙ ap lowest all, (c.loop-n.invariant.1 ∙ ap named all, tt))),
     )
 
 pub returns : goal.returns
 returns c =
     record {
-      the-table-or-the-refusal =
-          cond-false (ltb 512 (length c.args.terms.now)) _ _ (le-ltb 512 (length c.args.terms.now) c.if-terms-gt-MOST-TERMS.false)
-          ∙ cond-true (formed c.args.terms.now) _ _ (sym c.if-not-is-formed.ensures.each-argument-is-earlier);
+      the_table_or_the_refusal =
+          cond-false (ltb 512 (length c.args.terms.now)) _ _ (le-ltb 512 (length c.args.terms.now) c.if-terms-gt-MOST_TERMS.false)
+          ∙ cond-true (formed c.args.terms.now) _ _ (sym c.if-not-is_formed.ensures.each_argument_is_earlier);
     }

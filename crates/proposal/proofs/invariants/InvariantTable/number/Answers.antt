@@ -12,8 +12,8 @@ same_place rows items name same = ap (λ xs. place_in (map (λ i. spelled i.name
 
 pub returns-in-Some : goal.returns-in-Some
 returns-in-Some c =
-    record { its-number-among-the-invariants = c.in-Some.ensures.the-number-of-the-first-so-named ∙ same_place _ (vec_items c.args.self.now.rows) c.args.name.now c.as-slice.ensures.value }
+    record { its_number_among_the_invariants = c.in-Some.ensures.the_number_of_the_first_so_named ∙ same_place _ (vec_items c.args.self.now.rows) c.args.name.now c.as_slice.ensures.value }
 
 pub returns-in-None : goal.returns-in-None
 returns-in-None c =
-    record { its-number-among-the-invariants = c.in-None.ensures.the-number-of-the-first-so-named ∙ same_place _ (vec_items c.args.self.now.rows) c.args.name.now c.as-slice.ensures.value }
+    record { its_number_among_the_invariants = c.in-None.ensures.the_number_of_the_first_so_named ∙ same_place _ (vec_items c.args.self.now.rows) c.args.name.now c.as_slice.ensures.value }

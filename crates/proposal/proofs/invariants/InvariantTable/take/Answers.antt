@@ -12,7 +12,7 @@ use Rattle.proposal.proofs.invariants.InvariantTable.take.Goals as goal
 pub invariant-of-self : goal.invariant-of-self
 invariant-of-self c =
     let rows = c.args.self.now.rows in
-    let room : length (invariants_seen c.args.self.now) < 64 = leb-false 64 (length (invariants_seen c.args.self.now)) (sym c.if-is-full.ensures.whether-no-more-may-stand) in
+    let room : length (invariants_seen c.args.self.now) < 64 = leb-false 64 (length (invariants_seen c.args.self.now)) (sym c.if-is_full.ensures.whether_no_more_may_stand) in
     (omega (arith, room, length-map rows.items invariant_seen, rows.ok.0, c.push.ensures.upper-bound), tt)
 
 -- a formula and one row more are what the line adds
@@ -29,10 +29,10 @@ added name formula line r rows after x is room pushed same =
 pub returns : goal.returns
 returns c =
     let self = c.args.self.now in
-    let room : length (invariants_seen self) < 64 = leb-false 64 (length (invariants_seen self)) (sym c.if-is-full.ensures.whether-no-more-may-stand) in
+    let room : length (invariants_seen self) < 64 = leb-false 64 (length (invariants_seen self)) (sym c.if-is_full.ensures.whether_no_more_may_stand) in
     record {
-      what-the-line-adds-or-its-fault =
-          added c.args.name.bytes.now c.in-ok-formula.formula c.args.line _ (vec_items self.rows) (vec_items c.push.new.self) _
-          c.in-ok-formula.ensures.the-formula-or-the-fault room c.in-ok-push.ensures.items
-          (λ i. record { name = c.in-ok-name.ensures.a-name-with-these-bytes i; formula = c.in-ok-formula.formula; line = c.args.line });
+      what_the_line_adds_or_its_fault =
+          added c.args.name.bytes.now c.in_ok-formula.formula c.args.line _ (vec_items self.rows) (vec_items c.push.new.self) _
+          c.in_ok-formula.ensures.the_formula_or_the_fault room c.in_ok-push.ensures.items
+          (λ i. record { name = c.in_ok-name.ensures.a_name_with_these_bytes i; formula = c.in_ok-formula.formula; line = c.args.line });
     }

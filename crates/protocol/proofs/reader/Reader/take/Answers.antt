@@ -4,12 +4,12 @@ use Rattle.protocol.specs.Views.{draft_seen}
 use Rattle.protocol.proofs.Standing.{stands}
 use Rattle.protocol.proofs.reader.Reader.take.Goals as goal
 
-pub take-line-requires : goal.take-line-requires
-take-line-requires c =
+pub take_line-requires : goal.take_line-requires
+take_line-requires c =
     record {
-      the-types-fit = c.requires.what-was-read-fits.types;
-      the-variables-fit = c.requires.what-was-read-fits.variables;
-      it-may-stand-here =
-          stands (draft_seen c.args.self.now) c.args.bytes.now c.in-ok-key.rest.now c.requires.what-was-read-fits c.requires.a-line c.in-ok-key.key (line_seen c.in-ok-line.line)
-          (sym c.in-ok-key.ensures.the-key-and-what-follows-or-the-fault) (sym c.if-not-can-follow.ensures.whether-it-may-stand-here) (sym c.in-ok-line.ensures.the-line-or-the-fault);
+      the_types_fit = c.requires.what_was_read_fits.types;
+      the_variables_fit = c.requires.what_was_read_fits.variables;
+      it_may_stand_here =
+          stands (draft_seen c.args.self.now) c.args.bytes.now c.in_ok-key.rest.now c.requires.what_was_read_fits c.requires.a_line c.in_ok-key.key (line_seen c.in_ok-line.line)
+          (sym c.in_ok-key.ensures.the_key_and_what_follows_or_the_fault) (sym c.if-not-can_follow.ensures.whether_it_may_stand_here) (sym c.in_ok-line.ensures.the_line_or_the_fault);
     }

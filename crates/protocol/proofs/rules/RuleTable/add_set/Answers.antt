@@ -13,9 +13,9 @@ index-mut-last-requires c = omega (arith, length-map c.args.self.now.rules.items
 pub returns : goal.returns
 returns c =
     record {
-      the-last-rule-has-one-more =
+      the_last_rule_has_one_more =
           ap Ok
           (set_added c.args.self.now.rules.items c.len-n.result c.index-mut-last.result.now (omega arith)
           (omega (arith, length-map c.args.self.now.rules.items rule_seen)) c.index-mut-last.ensures.value c.args.assignment _ refl refl
-          c.in-ok-push.ensures.items);
+          c.in_ok-push.ensures.items);
     }

@@ -14,4 +14,4 @@ pub returns : goal.returns
 returns c =
     let last = last_is c.args.self.now.rules.items c.len.result c.index.result.now (omega arith)
     (omega (arith, length-map c.args.self.now.rules.items rule_seen)) c.index.ensures in
-    record { those-of-the-last-rule = ap (map assignment_seen) c.as-slice.ensures.value ∙ sym (ap (λ r. r.sets) last) }
+    record { those_of_the_last_rule = ap (map assignment_seen) c.as_slice.ensures.value ∙ sym (ap (λ r. r.sets) last) }

@@ -7,8 +7,8 @@ use Rattle.protocol.proofs.rules.RuleTable.take_rule.Goals as goal
 pub returns : goal.returns
 returns c =
     record {
-      what-the-line-adds-or-its-fault =
+      what_the_line_adds_or_its_fault =
           rule_added (terms_seen c.args.terms.now) (word_seen c.args.name) c.args.guard _ _ _
-          (simp (c.as-slice.ensures.value, c.as-slice-2.ensures.value) at c.in-ok-test-rule.ensures.the-first-fault)
-          c.in-ok-push.ensures.items c.in-ok-name.ensures.a-name-with-these-bytes refl c.new.ensures.items;
+          (simp (c.as_slice.ensures.value, c.as_slice-2.ensures.value) at c.in_ok-test_rule.ensures.the_first_fault)
+          c.in_ok-push.ensures.items c.in_ok-name.ensures.a_name_with_these_bytes refl c.new.ensures.items;
     }

@@ -5,5 +5,5 @@ use Rattle.protocol.proofs.tables.TypeTable.kind.Goals as goal
 pub overflow-cast-result : goal.overflow-cast-result
 overflow-cast-result c = search (rules, length-map)
 
-pub bounds-as-slice-number : goal.bounds-as-slice-number
-bounds-as-slice-number c = search (rules, length-map)
+pub bounds-as_slice-number : goal.bounds-as_slice-number
+bounds-as_slice-number c = search (rules, length-map)

@@ -5,8 +5,8 @@ use Rattle.rules.proofs.table.RuleTable.add_set.Goals as goal
 pub returns : goal.returns
 returns c =
     record {
-      the-last-rule-has-one-more =
+      the_last_rule_has_one_more =
           ap Ok
           (set_added c.args.self.now.rules.items c.len-n.result c.index-mut-last.result.now (omega arith) (omega arith)
-          c.index-mut-last.ensures.value c.args.assignment _ refl refl c.in-ok-push.ensures.items);
+          c.index-mut-last.ensures.value c.args.assignment _ refl refl c.in_ok-push.ensures.items);
     }

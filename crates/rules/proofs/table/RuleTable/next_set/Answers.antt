@@ -15,20 +15,20 @@ pub returns-then-n-eq0 : goal.returns-then-n-eq0
 returns-then-n-eq0 c =
     let rules = c.args.self.now.rules in
     record {
-      the-assignment-or-the-first-fault =
+      the_assignment_or_the_first_fault =
           none_above (variables_seen c.args.variables.now) (terms_seen c.args.terms.now) (word_seen c.args.name) c.args.term (rules_seen c.args.self.now)
           (omega (arith, length-map rules.items rule_seen, rules.ok.0));
-      a-rule-stands-above-it = tt;
+      a_rule_stands_above_it = tt;
     }
 
 pub returns-in-default : goal.returns-in-default
 returns-in-default c =
     let rules = c.args.self.now.rules in
     record {
-      the-assignment-or-the-first-fault =
+      the_assignment_or_the_first_fault =
           sym (one_above (variables_seen c.args.variables.now) (terms_seen c.args.terms.now) (word_seen c.args.name) c.args.term (rules_seen c.args.self.now)
-          (omega (arith, length-map rules.items rule_seen, rules.ok.0)) None (sym c.in-default.is ∙ c.number.ensures.its-number-among-the-variables));
-      a-rule-stands-above-it = tt;
+          (omega (arith, length-map rules.items rule_seen, rules.ok.0)) None (sym c.in-default.is ∙ c.number.ensures.its_number_among_the_variables));
+      a_rule_stands_above_it = tt;
     }
 
 pub returns : goal.returns
@@ -36,16 +36,16 @@ returns c =
     let rules = c.args.self.now.rules in
     let variables = c.args.variables.now in
     let some : 0 < c.len-n.result = omega arith in
-    let inside : c.in-Some.variable < vec_len variables.kinds = omega (arith, c.in-Some.ensures.it-is-one-of-them, variables.all_typed) in
+    let inside : c.in-Some.variable < vec_len variables.kinds = omega (arith, c.in-Some.ensures.it_is_one_of_them, variables.all_typed) in
     let above : 0 < vec_len rules = omega arith in
     let last = last_is rules.items c.len-n.result c.index.result.now (omega (arith, rules.ok.0)) some c.index.ensures in
     record {
-      the-assignment-or-the-first-fault =
-          set_tested_from (variables_seen variables) (terms_seen c.args.terms.now) (word_seen c.args.name) c.args.term (rules_seen c.args.self.now) c.in-Some.variable _ c.as-slice-sets.result.now _
+      the_assignment_or_the_first_fault =
+          set_tested_from (variables_seen variables) (terms_seen c.args.terms.now) (word_seen c.args.name) c.args.term (rules_seen c.args.self.now) c.in-Some.variable _ c.as_slice-sets.result.now _
           (omega (arith, length-map rules.items rule_seen, rules.ok.0))
-          c.in-Some.ensures.its-number-among-the-variables
+          c.in-Some.ensures.its_number_among_the_variables
           (get_or_read_under variables.kinds.items _ variables.kinds.len _ 0 c.index-kind.ensures inside variables.kinds.ok.0)
-          (c.as-slice-sets.ensures.value ∙ sym (ap (λ r. r.sets) last))
-          c.test-set.ensures.the-assignment-or-the-first-fault;
-      a-rule-stands-above-it = anyway c.test-set.result (0 < vec_len rules) above;
+          (c.as_slice-sets.ensures.value ∙ sym (ap (λ r. r.sets) last))
+          c.test_set.ensures.the_assignment_or_the_first_fault;
+      a_rule_stands_above_it = anyway c.test_set.result (0 < vec_len rules) above;
     }

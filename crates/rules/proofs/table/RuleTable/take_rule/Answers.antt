@@ -7,8 +7,8 @@ use Rattle.rules.proofs.table.RuleTable.take_rule.Goals as goal
 pub returns : goal.returns
 returns c =
     record {
-      what-the-line-adds-or-its-fault =
-          rule_added (terms_seen c.args.terms.now) (word_seen c.args.name) c.args.guard _ _ _ c.in-ok-guard.guard
-          (simp c.as-slice.ensures.value at c.in-ok-guard.ensures.the-guard-or-the-first-fault)
-          c.in-ok-push.ensures.items c.in-ok-name.ensures.a-name-with-these-bytes refl c.new-sets.ensures.items;
+      what_the_line_adds_or_its_fault =
+          rule_added (terms_seen c.args.terms.now) (word_seen c.args.name) c.args.guard _ _ _ c.in_ok-guard.guard
+          (simp c.as_slice.ensures.value at c.in_ok-guard.ensures.the_guard_or_the_first_fault)
+          c.in_ok-push.ensures.items c.in_ok-name.ensures.a_name_with_these_bytes refl c.new-sets.ensures.items;
     }

@@ -20,21 +20,21 @@ pub returns-then-kind-len : goal.returns-then-kind-len
 returns-then-kind-len c =
     let values = c.args.self.now.values in
     record {
-      its-number-among-the-values =
+      its_number_among_the_values =
           ap (λ names. place_in names c.args.value.now)
           (sym (get_or_past (spellings values) c.args.kind [] (omega (arith, values.ok.0, length-map (vec_items values) (λ v. map spelled (vec_items v))))));
     }
 
-pub number-in-requires : goal.number-in-requires
-number-in-requires c =
+pub number_in-requires : goal.number_in-requires
+number_in-requires c =
     let few = c.args.self.now.few_values c.args.kind in
-    let same = ap length (read_there (goal.at.number-in-requires c).After-index) in
+    let same = ap length (read_there (goal.at.number_in-requires c).After-index) in
     let names = c.index.result.now in
     record { few = omega (arith, few, same, names.ok.0, length-map (vec_items names) spelled) }
 
 pub returns : goal.returns
 returns c =
     record {
-      its-number-among-the-values =
-          c.number-in.ensures.its-number-among-the-names ∙ ap (λ names. place_in names c.args.value.now) (sym (read_there (goal.at.returns c).After-index));
+      its_number_among_the_values =
+          c.number_in.ensures.its_number_among_the_names ∙ ap (λ names. place_in names c.args.value.now) (sym (read_there (goal.at.returns c).After-index));
     }

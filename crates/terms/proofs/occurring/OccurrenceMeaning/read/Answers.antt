@@ -6,8 +6,8 @@ use Rattle.terms.proofs.occurring.OccurrenceMeaning.read.Goals as goal
 pub returns : goal.returns
 returns c =
     record {
-      what-its-tree-is-read-as = λ earlier is.
-          c.occurs-in-term.ensures.in-that-term
+      what_its_tree_is_read_as = λ earlier is.
+          c.occurs_in_term.ensures.in_that_term
           ∙ ap (λ flags. occurs_in c.args.self.now.variable flags c.args.term) is
           ∙ occurs_composed c.args.self.now.variable earlier c.args.term;
     }

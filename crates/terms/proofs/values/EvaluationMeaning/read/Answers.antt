@@ -6,8 +6,8 @@ use Rattle.terms.proofs.values.EvaluationMeaning.read.Goals as goal
 pub returns : goal.returns
 returns c =
     record {
-      what-its-tree-is-read-as = λ earlier is.
-          c.value-of-term.ensures.its-value
+      what_its_tree_is_read_as = λ earlier is.
+          c.value_of_term.ensures.its_value
           ∙ ap (λ values. value_of c.args.self.now.state.now values c.args.term) is
           ∙ value_composed c.args.self.now.state.now earlier c.args.term;
     }
