@@ -3,7 +3,7 @@ ghost use Rattle.std.specs.Prelude.{◌≡◌, ℕ, ◌<◌, ◌≤◌, true, �
 ghost use Rattle.precondition.specs.Parts.{parts, up_to};
 ghost use Rattle.precondition.specs.Steps.{Numbered, Went, replaced_by, work_seen};
 ghost use Rattle.precondition.specs.Tables.{lowest as lowest-of, named as named-of};
-ghost use Rattle.precondition.specs.Writing.{Came, IsPrecondition, all_taken, all-there, answer, answer_seen, begun, noted, written};
+ghost use Rattle.precondition.specs.Writing.{Came, IsPrecondition, all_taken, all_there, answer, answer_seen, begun, noted, written};
 
 use crate::answers::{Draft, Precondition};
 use crate::copies::Copies;
@@ -80,7 +80,7 @@ fn take_all(
     marks: &[bool],
 ) -> Result<Draft, Fault>
     requires a_formula { formula < length copies.now.terms.now }
-    requires all_there { all-there (length copies.now.terms.now) sets.now ≡ true }
+    requires each_is_there { all_there (length copies.now.terms.now) sets.now ≡ true }
     requires its_part { part.now ≡ up_to copies.now.terms.now formula }
     requires its_marks { marks.now ≡ parts copies.now.terms.now formula }
     ensures what_is_written_or_the_refusal { Came work_seen result (all_taken copies.now.terms.now sets.now (parts copies.now.terms.now formula) (up_to copies.now.terms.now formula) begun) }
@@ -102,7 +102,7 @@ fn take_all(
 
 // Whether the formula and all that variables are set to are terms of the table.
 fn are_there(count: usize, sets: &[Assignment], formula: u16) -> bool
-    ensures whether_all_are_there { result ≡ (nat_lt formula count && all-there count sets.now) }
+    ensures whether_all_are_there { result ≡ (nat_lt formula count && all_there count sets.now) }
 {
     if (formula as usize) >= count {
         return false;

@@ -21,7 +21,7 @@ was_taken c =
 
 pub returns-in_err-line : goal.returns-in_err-line
 returns-in_err-line c =
-    let told = err_from_is_err_and c.from-residual.result c.from-residual.ensures.1 in
+    let told = err_from_is_err_and c.from_residual.result c.from_residual.ensures.1 in
     let found = placed_err c.loop-rest.number c.cut_line.result c.in_err-line.field-0.0 c.in_err-line.ensures.the_answer_or_its_fault_with_the_line in
     let uncut : cut c.loop-rest.rest.now ≡ Err found.0 = sym c.cut_line.ensures.the_line_and_the_rest_or_the_fault ∙ ap parts found.1 in
     record {
@@ -33,7 +33,7 @@ returns-in_err-line c =
 
 pub returns-in_err-at_line : goal.returns-in_err-at_line
 returns-in_err-at_line c =
-    let told = err_from_is_err_and c.from-residual-in_err-at_line.result c.from-residual-in_err-at_line.ensures.1 in
+    let told = err_from_is_err_and c.from_residual-in_err-at_line.result c.from_residual-in_err-at_line.ensures.1 in
     let found = placed_err c.loop-rest.number c.take.result c.in_err-at_line.field-0.0 c.in_err-at_line.ensures.the_answer_or_its_fault_with_the_line in
     let fails : taken c.args.file c.loop-rest.tally c.in_ok-line.line.now ≡ Err found.0 =
     sym c.take.ensures.what_is_made_of_the_line ∙ ap (λ r. answered r c.take.new.self) found.1 in

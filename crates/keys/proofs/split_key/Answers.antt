@@ -35,7 +35,7 @@ returns-in-Some-three_letters c =
     let line = c.args.line.now in
     let is =
     settled three long line _ c.in-Some-three_letters.ensures.the_key_and_what_follows
-    ∙ past_four line c.in-default.ensures.the_key_and_what_follows in
+    ∙ past_four line c.in_default.ensures.the_key_and_what_follows in
     record { the_key_and_what_follows = is; put_together_they_are_the_line_or_no_key_fits = key_law (Some c.in-Some-three_letters.found) line is }
 
 pub returns-in-Some-of_a_cause : goal.returns-in-Some-of_a_cause
@@ -43,7 +43,7 @@ returns-in-Some-of_a_cause c =
     let line = c.args.line.now in
     let is =
     settled (Cause ∷ []) (Protocol ∷ Proposal ∷ []) line _ c.in-Some-of_a_cause.ensures.the_key_and_what_follows
-    ∙ past_three line c.in-default.ensures.the_key_and_what_follows c.in-default-three_letters.ensures.the_key_and_what_follows in
+    ∙ past_three line c.in_default.ensures.the_key_and_what_follows c.in_default-three_letters.ensures.the_key_and_what_follows in
     record { the_key_and_what_follows = is; put_together_they_are_the_line_or_no_key_fits = key_law (Some c.in-Some-of_a_cause.found) line is }
 
 pub returns-in-Some-of_a_protocol : goal.returns-in-Some-of_a_protocol
@@ -51,8 +51,8 @@ returns-in-Some-of_a_protocol c =
     let line = c.args.line.now in
     let is =
     settled (Protocol ∷ []) (Proposal ∷ []) line _ c.in-Some-of_a_protocol.ensures.the_key_and_what_follows
-    ∙ past_cause line c.in-default.ensures.the_key_and_what_follows c.in-default-three_letters.ensures.the_key_and_what_follows
-    c.in-default-of_a_cause.ensures.the_key_and_what_follows in
+    ∙ past_cause line c.in_default.ensures.the_key_and_what_follows c.in_default-three_letters.ensures.the_key_and_what_follows
+    c.in_default-of_a_cause.ensures.the_key_and_what_follows in
     record { the_key_and_what_follows = is; put_together_they_are_the_line_or_no_key_fits = key_law (Some c.in-Some-of_a_protocol.found) line is }
 
 pub returns : goal.returns
@@ -60,7 +60,7 @@ returns c =
     let line = c.args.line.now in
     let is =
     c.of_a_proposal.ensures.the_key_and_what_follows
-    ∙ passed (Protocol ∷ []) (Proposal ∷ []) line c.in-default-of_a_protocol.ensures.the_key_and_what_follows
-    ∙ past_cause line c.in-default.ensures.the_key_and_what_follows c.in-default-three_letters.ensures.the_key_and_what_follows
-    c.in-default-of_a_cause.ensures.the_key_and_what_follows in
+    ∙ passed (Protocol ∷ []) (Proposal ∷ []) line c.in_default-of_a_protocol.ensures.the_key_and_what_follows
+    ∙ past_cause line c.in_default.ensures.the_key_and_what_follows c.in_default-three_letters.ensures.the_key_and_what_follows
+    c.in_default-of_a_cause.ensures.the_key_and_what_follows in
     record { the_key_and_what_follows = is; put_together_they_are_the_line_or_no_key_fits = key_law c.of_a_proposal.result line is }

@@ -35,8 +35,8 @@ returns-in_err-results c =
     let sets = c.args.sets.now in
     let n = c.args.formula in
     let fault = c.in_err-results.field-0.0 in
-    let told = err_from_is_err_and c.from-residual.result c.from-residual.ensures.1 in
-    let result-is : c.from-residual.result ≡ Err fault = told.1 ∙ ap Err told.2 in
+    let told = err_from_is_err_and c.from_residual.result c.from_residual.ensures.1 in
+    let result-is : c.from_residual.result ≡ Err fault = told.1 ∙ ap Err told.2 in
     record {
       the_scratch_and_the_number_or_the_refusal =
           subst (λ r. Came answer_seen r (written terms sets n)) (sym result-is)

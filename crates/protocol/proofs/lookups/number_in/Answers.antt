@@ -10,8 +10,8 @@ below c =
     let found = c.in-Some.ensures.found_is_so_named_and_none_means_no_row_is.0 in
     subst (λ n. c.in-Some.i < n) (ap length c.deref.ensures.value ∙ sym (length-map (vec_items c.args.names.now) spelled)) found
 
-pub overflow-cast-result : goal.overflow-cast-result
-overflow-cast-result c = let inside = below (goal.at.overflow-cast-result c).In-Some in record { fits = omega (arith, inside, c.requires) }
+pub overflow_cast-result : goal.overflow_cast-result
+overflow_cast-result c = let inside = below (goal.at.overflow_cast-result c).In-Some in record { fits = omega (arith, inside, c.requires) }
 
 pub returns-in-Some : goal.returns-in-Some
 returns-in-Some c =

@@ -38,7 +38,7 @@ loop-rest-init c =
 
 pub returns-in_err-line : goal.returns-in_err-line
 returns-in_err-line c =
-    let told_is = err_from_is_err_and c.from-residual.result c.from-residual.ensures.1 in
+    let told_is = err_from_is_err_and c.from_residual.result c.from_residual.ensures.1 in
     let found = placed_err c.loop-rest.number c.cut_line.result c.in_err-line.field-0.0 c.in_err-line.ensures.the_answer_or_its_fault_with_the_line in
     let uncut : cut c.loop-rest.rest.now ≡ Err found.0 = sym c.cut_line.ensures.the_line_and_the_rest_or_the_fault ∙ ap parts found.1 in
     record {
@@ -51,7 +51,7 @@ returns-in_err-line c =
 
 pub returns-in_err-take_at : goal.returns-in_err-take_at
 returns-in_err-take_at c =
-    let told_is = err_from_is_err_and c.from-residual-in_err-take_at.result c.from-residual-in_err-take_at.ensures.1 in
+    let told_is = err_from_is_err_and c.from_residual-in_err-take_at.result c.from_residual-in_err-take_at.ensures.1 in
     record {
       every_line_in_turn =
           subst (λ r. Went r (draft_seen c.take.new.self) (gone_through c.args.bytes.now)) (sym (told_is.1 ∙ ap Err told_is.2))

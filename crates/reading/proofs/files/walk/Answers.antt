@@ -13,7 +13,7 @@ use Rattle.reading.proofs.files.walk.Goals as goal
 
 pub returns-in_err-line : goal.returns-in_err-line
 returns-in_err-line g c =
-    let told_is = err_from_is_err_and c.from-residual.result c.from-residual.ensures.1 in
+    let told_is = err_from_is_err_and c.from_residual.result c.from_residual.ensures.1 in
     let found = placed_err c.loop-rest.number c.cut_line.result c.in_err-line.field-0.0 c.in_err-line.ensures.the_answer_or_its_fault_with_the_line in
     let uncut : cut c.loop-rest.rest.now ≡ Err found.0 = sym c.cut_line.ensures.the_line_and_the_rest_or_the_fault ∙ ap parts found.1 in
     let state = g.R.Reader.seen c.loop-rest.reader in
@@ -27,7 +27,7 @@ returns-in_err-line g c =
 
 pub returns-in_err-take_at : goal.returns-in_err-take_at
 returns-in_err-take_at g c =
-    let told_is = err_from_is_err_and c.from-residual-in_err-take_at.result c.from-residual-in_err-take_at.ensures.1 in
+    let told_is = err_from_is_err_and c.from_residual-in_err-take_at.result c.from_residual-in_err-take_at.ensures.1 in
     let cut-is : cut c.loop-rest.rest.now ≡ Ok (c.in_ok-line.line.now, c.in_ok-line.after.now) = sym c.cut_line.ensures.the_line_and_the_rest_or_the_fault ∙ ap parts (placed_ok _ _ _ c.in_ok-line.ensures.the_answer_or_its_fault_with_the_line) in
     let after = g.R.Reader.seen c.take.new.self in
     record {

@@ -18,7 +18,7 @@ loop-self-preserved c =
 
 pub returns-in_err-name : goal.returns-in_err-name
 returns-in_err-name c =
-    let p = err_from_is_err_and c.from-residual.result c.from-residual.ensures.1 in
+    let p = err_from_is_err_and c.from_residual.result c.from_residual.ensures.1 in
     record {
       all_are_names_or_the_first_that_is_none =
           p.1 ∙ ap Err p.2

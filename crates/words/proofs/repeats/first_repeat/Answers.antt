@@ -28,6 +28,6 @@ pub returns : goal.returns
 returns c =
     let all = words_left (start c.args.text.now) in
     let none =
-    sym (ap (repeat_in all) (none_left (place c.loop-word.words) c.in-default.field-0 c.in-default.ensures.the_word_or_that_it_is_missing))
+    sym (ap (repeat_in all) (none_left (place c.loop-word.words) c.in_default.field-0 c.in_default.ensures.the_word_or_that_it_is_missing))
     ∙ c.loop-word.invariant in
     record { the_column_of_the_first_word_that_stands_further_left_too = none; no_repeat_means_all_differ = λ _. all_differ all (sym none) }

@@ -13,8 +13,8 @@ use Rattle.precondition.proofs.copies.Copies.new.Goals as goal
 pub loop-n-init : goal.loop-n-init
 loop-n-init c = (c.new-lowest.ensures.items ∙ sym (ap (λ ts. map (place ts) ts) trees_none), c.new-named.ensures.items)
 
-pub overflow-cast-place : goal.overflow-cast-place
-overflow-cast-place c =
+pub overflow_cast-place : goal.overflow_cast-place
+overflow_cast-place c =
     let terms = c.args.terms.now in
     let many : length c.as_slice-in-loop-n.result.now ≡ c.loop-n.n =
     ap length (c.as_slice-in-loop-n.ensures.value ∙ c.loop-n.invariant.1)

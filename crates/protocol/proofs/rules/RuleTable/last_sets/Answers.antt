@@ -4,8 +4,8 @@ use Rattle.protocol.specs.Views.{assignment_seen, rule_seen}
 use Rattle.protocol.proofs.RuleLaws.{last_is}
 use Rattle.protocol.proofs.rules.RuleTable.last_sets.Goals as goal
 
-pub overflow-sub-len : goal.overflow-sub-len
-overflow-sub-len c = omega (arith, length-map c.args.self.now.rules.items rule_seen)
+pub overflow_sub-len : goal.overflow_sub-len
+overflow_sub-len c = omega (arith, length-map c.args.self.now.rules.items rule_seen)
 
 pub index-requires : goal.index-requires
 index-requires c = omega (arith, length-map c.args.self.now.rules.items rule_seen)

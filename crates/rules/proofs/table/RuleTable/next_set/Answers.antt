@@ -21,13 +21,13 @@ returns-then-n-eq0 c =
       a_rule_stands_above_it = tt;
     }
 
-pub returns-in-default : goal.returns-in-default
-returns-in-default c =
+pub returns-in_default : goal.returns-in_default
+returns-in_default c =
     let rules = c.args.self.now.rules in
     record {
       the_assignment_or_the_first_fault =
           sym (one_above (variables_seen c.args.variables.now) (terms_seen c.args.terms.now) (word_seen c.args.name) c.args.term (rules_seen c.args.self.now)
-          (omega (arith, length-map rules.items rule_seen, rules.ok.0)) None (sym c.in-default.is ∙ c.number.ensures.its_number_among_the_variables));
+          (omega (arith, length-map rules.items rule_seen, rules.ok.0)) None (sym c.in_default.is ∙ c.number.ensures.its_number_among_the_variables));
       a_rule_stands_above_it = tt;
     }
 
