@@ -24,7 +24,7 @@ take_all-requires c =
     let part-is : take (n + 1 - 0) terms ≡ take (suc n) terms = ap (λ k. take k terms) count_is in
     record {
       a_formula = ltb-true n (length terms) both.0;
-      all_there = both.1;
+      each_is_there = both.1;
       its_part = part-is;
       its_marks = c.mark.ensures.what_the_marked_are_made_of ∙ ap (λ p. marked_from 0 p (set (replicate 512 false) n true)) part-is;
     }

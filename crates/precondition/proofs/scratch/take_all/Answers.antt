@@ -15,7 +15,7 @@ loop-n-init c =
     let k = c.args.copies.now in
     subst (Turn k.terms.now c.args.sets.now c.args.formula 0)
     (λ i. record { results = sym c.new.ensures.items i; scratch = sym c.new-2.ensures.items i })
-    (turn_begun k.terms.now c.args.sets.now c.args.formula k.few k.well_formed c.requires.all_there c.requires.a_formula)
+    (turn_begun k.terms.now c.args.sets.now c.args.formula k.few k.well_formed c.requires.each_is_there c.requires.a_formula)
 
 pub bounds-marks-n : goal.bounds-marks-n
 bounds-marks-n c =
@@ -44,7 +44,7 @@ returns-in_err-take c =
     record {
       what_is_written_or_the_refusal =
           subst (λ r. Came work_seen r (all_taken terms sets (parts terms formula) (up_to terms formula) begun)) (sym result-is)
-          (turn_broken terms sets formula k.few k.well_formed c.requires.all_there c.requires.a_formula w n c.loop-n.invariant inside marked said.0 said.1 fault _ said.2);
+          (turn_broken terms sets formula k.few k.well_formed c.requires.each_is_there c.requires.a_formula w n c.loop-n.invariant inside marked said.0 said.1 fault _ said.2);
       the_result_is_the_precondition = subst (λ r. IfOk r (λ d. IsPrecondition terms sets formula (answer formula (work_seen d)))) (sym result-is) tt;
     }
 
@@ -65,13 +65,13 @@ loop-n-preserved c =
           subst (λ (p : List Term). (m : ℕ) × Numbered (lowest terms) (named terms ++ w.scratch) w.results (term_at p n) (replaced_by sets (term_at p n)) m × (noted (length terms) w (term_at p n) m ≡ Ok after)) c.requires.its_part
           v.in_ok-take.ensures.the_draft_with_its_lowest_number in
           subst (λ d. Turn terms sets formula (n + 1) (work_seen d)) (sym v.draft-is)
-          (turn_taken terms sets formula k.few k.well_formed c.requires.all_there c.requires.a_formula w n c.loop-n.invariant inside marked said.0 said.1 after said.2)
+          (turn_taken terms sets formula k.few k.well_formed c.requires.each_is_there c.requires.a_formula w n c.loop-n.invariant inside marked said.0 said.1 after said.2)
       | else-marks-n+in_ok-push v ↦
           let unmarked : get_or (parts terms formula) n false ≡ false = subst (λ ms. get_or ms n false ≡ false) c.requires.its_marks v.if-marks-n.false in
           let after_is : with_result w 0 ≡ work_seen c.if-marks-n.draft =
           (λ i. record { results = sym v.in_ok-push.ensures.items i; scratch = w.scratch }) ∙ ap work_seen (sym v.draft-is) in
           subst (Turn terms sets formula (n + 1)) after_is
-          (turn_skipped terms sets formula k.few k.well_formed c.requires.all_there c.requires.a_formula w n c.loop-n.invariant inside unmarked)
+          (turn_skipped terms sets formula k.few k.well_formed c.requires.each_is_there c.requires.a_formula w n c.loop-n.invariant inside unmarked)
     ]
 
 pub returns : goal.returns
@@ -80,7 +80,7 @@ returns c =
     let over : length (up_to k.terms.now c.args.formula) ≤ c.loop-n.n = subst (λ p. length p ≤ c.loop-n.n) c.requires.its_part c.loop-n-test.false in
     record {
       what_is_written_or_the_refusal =
-          turn_end k.terms.now c.args.sets.now c.args.formula k.few k.well_formed c.requires.all_there c.requires.a_formula (work_seen c.loop-n.draft) c.loop-n.n c.loop-n.invariant over;
+          turn_end k.terms.now c.args.sets.now c.args.formula k.few k.well_formed c.requires.each_is_there c.requires.a_formula (work_seen c.loop-n.draft) c.loop-n.n c.loop-n.invariant over;
       the_result_is_the_precondition =
-          turn_result k.terms.now c.args.sets.now c.args.formula k.few k.well_formed c.requires.all_there c.requires.a_formula (work_seen c.loop-n.draft) c.loop-n.n c.loop-n.invariant over;
+          turn_result k.terms.now c.args.sets.now c.args.formula k.few k.well_formed c.requires.each_is_there c.requires.a_formula (work_seen c.loop-n.draft) c.loop-n.n c.loop-n.invariant over;
     }
