@@ -4,6 +4,7 @@
 
 ghost use Rattle.std.specs.Prelude.{◌≡◌, ℕ, ◌<◌, List, [], map, length, IfOk, Decides, MatchOption, ◌≢◌, slice_index_or};
 ghost use Rattle.names.specs.Names.{spelled, place_in};
+ghost use Rattle.std.specs.Str.{bytes_eq};
 ghost use Rattle.std.specs.Cmp.Rules.{comparing};
 ghost use Rattle.std.proofs.Common.{rules};
 
@@ -51,11 +52,14 @@ impl Name {
 
 // Two names are equal if they are spelled the same, and only then.
 impl PartialEq for Name {
-    ghost equals = { λ x y r. Decides r (spelled x ≡ spelled y) };
+    ghost eq = { λ x y. bytes_eq (spelled x) (spelled y) };
 
     ghost laws = { Prim.search (comparing, rules) };
 
-    fn eq(&self, other: &Name) -> bool {
+    fn eq(&self, other: &Name) -> bool
+        ensures by_their_bytes { result ≡ bytes_eq (spelled self.now) (spelled other.now) }
+        ensures spelled_the_same_and_only_then { Decides result (spelled self.now ≡ spelled other.now) }
+    {
         is_word(self.as_bytes(), other.as_bytes())
     }
 }

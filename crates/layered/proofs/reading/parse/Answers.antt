@@ -6,8 +6,8 @@ use Rattle.layered.specs.Views.{draft_seen}
 use Rattle.layered.proofs.LawWhole.{lawful_whole}
 use Rattle.layered.proofs.reading.parse.Goals as goal
 
-pub invariant-of-result : goal.invariant-of-result
-invariant-of-result c =
+pub invariant_of-result : goal.invariant_of-result
+invariant_of-result c =
     let text = c.args.bytes.now in
     let after = draft_seen c.read_file.new.reader in
     let said : read_through (λ draft number line. taken draft line) ended begun text ≡ Ok after =

@@ -17,8 +17,8 @@ values_more c =
     mapped_push (λ v. map spelled (vec_items v)) (vec_items c.args.types.now.values) (vec_items c.push_reserved-2.new.self) c.in_ok-values.values (row c)
     (c.push_reserved-2.ensures.items ∙ ap (λ vs. vs ++ c.in_ok-values.values ∷ []) c.reserve-2.ensures.items) c.in_ok-values.ensures.an_owned_name_for_each_word
 
-pub invariant-of-types-2 : goal.invariant-of-types-2
-invariant-of-types-2 c =
+pub invariant_of-types-2 : goal.invariant_of-types-2
+invariant_of-types-2 c =
     let was = c.args.types.now in
     let names : vec_len c.push_reserved.new.self ≡ vec_len was.names + 1 = omega (arith, c.push_reserved.ensures.len, c.reserve.ensures.len) in
     let values : vec_len c.push_reserved-2.new.self ≡ vec_len was.values + 1 = omega (arith, c.push_reserved-2.ensures.len, c.reserve-2.ensures.len) in

@@ -56,8 +56,8 @@ written_again c =
     ∥∥₁_elim c.args.protocol.now.lawful_or_empty (is_set ℕ_set (written p q) text) (λ either.
     subst (λ made. written p made ≡ text) (was_left c) (left_written p (lawful_terms p either) text (draft_seen c.read_file.new.reader) (was_read c)))
 
-pub invariant-of-result : goal.invariant-of-result
-invariant-of-result c =
+pub invariant_of-result : goal.invariant_of-result
+invariant_of-result c =
     (∥∥₁_map (lawful c) (λ law. inl (protocol_seen c.args.protocol.now, law)), tt)
 
 pub returns : goal.returns

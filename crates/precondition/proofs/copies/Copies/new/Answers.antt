@@ -37,8 +37,8 @@ loop-n-preserved c =
       c.in_ok-push-2.ensures.items ∙ ap₂ (λ xs x. xs ++ x ∷ []) c.loop-n.invariant.1 next_is ∙ sym (named_more terms n is inside),
     )
 
-pub invariant-of-result : goal.invariant-of-result
-invariant-of-result c =
+pub invariant_of-result : goal.invariant_of-result
+invariant_of-result c =
     let all = take_all c.loop-n.n c.args.terms.now c.loop-n-test.false in (
       c.if-terms-gt-MOST_TERMS.false,
       (sym c.if-not-is_formed.ensures.each_argument_is_earlier, (c.loop-n.invariant.0 ∙ ap lowest all, (c.loop-n.invariant.1 ∙ ap named all, tt))),

@@ -9,8 +9,8 @@ use Rattle.proposal.specs.Views.{invariant_seen, invariants_seen}
 use Rattle.proposal.specs.declared.invariants.Invariant.{Invariant}
 use Rattle.proposal.proofs.invariants.InvariantTable.take.Goals as goal
 
-pub invariant-of-self : goal.invariant-of-self
-invariant-of-self c =
+pub invariant_of-self : goal.invariant_of-self
+invariant_of-self c =
     let rows = c.args.self.now.rows in
     let room : length (invariants_seen c.args.self.now) < 64 = leb-false 64 (length (invariants_seen c.args.self.now)) (sym c.if-is_full.ensures.whether_no_more_may_stand) in
     (omega (arith, room, length-map rows.items invariant_seen, rows.ok.0, c.push.ensures.upper-bound), tt)

@@ -4,6 +4,6 @@ use Rattle.protocol.specs.Records.{ProtocolV, empty}
 use Rattle.protocol.proofs.record.Protocol.copy.Goals as goal
 
 -- what holds of the protocol holds of its copy
-pub invariant-of-result : goal.invariant-of-result
-invariant-of-result c =
+pub invariant_of-result : goal.invariant_of-result
+invariant_of-result c =
     (subst (λ (p : ProtocolV). ∥ Lawful p ⊎ (p ≡ empty) ∥₁) (sym c.in_ok-parts.ensures.parts_that_say_the_same) c.args.self.now.lawful_or_empty, tt)

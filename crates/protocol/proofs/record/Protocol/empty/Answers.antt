@@ -1,5 +1,5 @@
 use Rattle.std.proofs.Common.{inr}
 use Rattle.protocol.proofs.record.Protocol.empty.Goals as goal
 
-pub invariant-of-result : goal.invariant-of-result
-invariant-of-result c = (∣ inr c.empty.ensures.the_empty_protocol ∣₁, tt)
+pub invariant_of-result : goal.invariant_of-result
+invariant_of-result c = (∣ inr c.empty.ensures.the_empty_protocol ∣₁, tt)

@@ -4,8 +4,8 @@ use Rattle.tables.specs.Spellings.{spellings}
 use Rattle.tables.proofs.Copies.{as_long}
 use Rattle.tables.proofs.types.TypeTable.copy.Goals as goal
 
-pub invariant-of-result : goal.invariant-of-result
-invariant-of-result c =
+pub invariant_of-result : goal.invariant_of-result
+invariant_of-result c =
     let was = c.args.self.now in
     let names = c.in_ok-names.names in
     let values = c.in_ok-values.values in

@@ -3,8 +3,8 @@ use Rattle.names.specs.Names.{spelled}
 use Rattle.tables.proofs.Copies.{as_long}
 use Rattle.tables.proofs.variables.VariableTable.copy.Goals as goal
 
-pub invariant-of-result : goal.invariant-of-result
-invariant-of-result c =
+pub invariant_of-result : goal.invariant_of-result
+invariant_of-result c =
     let was = c.args.self.now in
     let names = c.in_ok-names.names in
     let as-many-names : length (vec_items names) ≡ length (vec_items was.names) = as_long spelled _ _ (c.in_ok-names.ensures.names_spelled_the_same ∙ ap (map spelled) c.as_slice.ensures.value) in
