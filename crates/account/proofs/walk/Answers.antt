@@ -7,14 +7,14 @@ use Rattle.text.specs.Lines.{cut, parts}
 use Rattle.account.specs.Accounts.{taken, answered, counted, Small, outcome}
 use Rattle.account.proofs.Turns.{refused_at, small_counted, taken_counted}
 use Rattle.account.proofs.walk.Goals as goal
-use Rattle.account.proofs.walk.Goals.{In-ok-line, In-ok-at_line}
+use Rattle.account.proofs.walk.Goals.{In_ok-line, In_ok-at_line}
 
 -- the line that was cut off
-was_cut : (c : In-ok-line) → cut c.loop-rest.rest.now ≡ Ok (c.in_ok-line.line.now, c.in_ok-line.after.now)
+was_cut : (c : In_ok-line) → cut c.loop-rest.rest.now ≡ Ok (c.in_ok-line.line.now, c.in_ok-line.after.now)
 was_cut c = sym c.cut_line.ensures.the_line_and_the_rest_or_the_fault ∙ ap parts (placed_ok _ _ _ c.in_ok-line.ensures.the_answer_or_its_fault_with_the_line)
 
 -- what was made of it
-was_taken : (c : In-ok-at_line) → taken c.args.file c.loop-rest.tally c.in_ok-line.line.now ≡ Ok c.take.new.self
+was_taken : (c : In_ok-at_line) → taken c.args.file c.loop-rest.tally c.in_ok-line.line.now ≡ Ok c.take.new.self
 was_taken c =
     sym c.take.ensures.what_is_made_of_the_line
     ∙ ap (λ r. answered r c.take.new.self) (placed_ok _ _ _ c.in_ok-at_line.ensures.the_answer_or_its_fault_with_the_line)
@@ -41,17 +41,17 @@ returns-in_err-at_line c =
     record {
       every_line_in_turn =
           (λ i. outcome ((told.1 ∙ ap Err (told.2 ∙ found.2)) i) (same i))
-          ∙ walk_refused (taken c.args.file) (λ tally. tally.ended) _ _ c.loop-rest.rest.now _ _ _ (was_cut (goal.at.returns-in_err-at_line c).In-ok-line) fails
+          ∙ walk_refused (taken c.args.file) (λ tally. tally.ended) _ _ c.loop-rest.rest.now _ _ _ (was_cut (goal.at.returns-in_err-at_line c).In_ok-line) fails
           ∙ c.loop-rest.invariant.0;
     }
 
 pub loop-rest-smaller : goal.loop-rest-smaller
-loop-rest-smaller c = cut_shorter _ _ _ (was_cut (goal.at.loop-rest-smaller c).In-ok-line)
+loop-rest-smaller c = cut_shorter _ _ _ (was_cut (goal.at.loop-rest-smaller c).In_ok-line)
 
 pub loop-rest-preserved : goal.loop-rest-preserved
 loop-rest-preserved c =
-    let cut-is = was_cut (goal.at.loop-rest-preserved c).In-ok-line in
-    let taken_is = was_taken (goal.at.loop-rest-preserved c).In-ok-at_line in
+    let cut-is = was_cut (goal.at.loop-rest-preserved c).In_ok-line in
+    let taken_is = was_taken (goal.at.loop-rest-preserved c).In_ok-at_line in
     let counted_is = taken_counted c.args.file c.loop-rest.tally c.take.new.self c.in_ok-line.line.now taken_is in
     let shorter : length c.in_ok-line.after.now < length c.loop-rest.rest.now = cut_shorter _ _ _ cut-is in
     let one_more : c.take.new.self.lines ≡ c.loop-rest.tally.lines + 1 = ap (λ tally. tally.lines) counted_is.1 in

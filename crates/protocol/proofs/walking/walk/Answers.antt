@@ -13,14 +13,14 @@ use Rattle.protocol.specs.declared.read_faults.ReadFault.TheVariants as told
 use Rattle.protocol.proofs.Keeps.{fit_begun, fit_taken}
 use Rattle.protocol.proofs.Walks.{taken_is, went_placed, went_refused}
 use Rattle.protocol.proofs.walking.walk.Goals as goal
-use Rattle.protocol.proofs.walking.walk.Goals.{In-ok-line, In-ok-take_at}
+use Rattle.protocol.proofs.walking.walk.Goals.{In_ok-line, In_ok-take_at}
 
 -- the line that was cut off
-was_cut : (c : In-ok-line) → cut c.loop-rest.rest.now ≡ Ok (c.in_ok-line.line.now, c.in_ok-line.after.now)
+was_cut : (c : In_ok-line) → cut c.loop-rest.rest.now ≡ Ok (c.in_ok-line.line.now, c.in_ok-line.after.now)
 was_cut c = sym c.cut_line.ensures.the_line_and_the_rest_or_the_fault ∙ ap parts (placed_ok _ _ _ c.in_ok-line.ensures.the_answer_or_its_fault_with_the_line)
 
 -- what was made of it
-was_taken : (c : In-ok-take_at) → taken (draft_seen c.loop-rest.reader) c.in_ok-line.line.now ≡ Ok (draft_seen c.take.new.self)
+was_taken : (c : In_ok-take_at) → taken (draft_seen c.loop-rest.reader) c.in_ok-line.line.now ≡ Ok (draft_seen c.take.new.self)
 was_taken c =
     taken_is c.loop-rest.number c.take.result c.in_ok-take_at.field-0 (draft_seen c.take.new.self) (taken (draft_seen c.loop-rest.reader) c.in_ok-line.line.now)
     c.in_ok-take_at.ensures.the_answer_or_its_fault_with_the_line c.take.ensures.what_is_made_of_the_line
@@ -29,7 +29,7 @@ pub take-requires : goal.take-requires
 take-requires c =
     record {
       what_was_read_fits = c.loop-rest.invariant.1;
-      a_line = fine_short _ (cut_line c.loop-rest.rest.now c.in_ok-line.line.now c.in_ok-line.after.now (was_cut (goal.at.take-requires c).In-ok-line)).1;
+      a_line = fine_short _ (cut_line c.loop-rest.rest.now c.in_ok-line.line.now c.in_ok-line.after.now (was_cut (goal.at.take-requires c).In_ok-line)).1;
     }
 
 pub loop-rest-init : goal.loop-rest-init
@@ -56,17 +56,17 @@ returns-in_err-take_at c =
       every_line_in_turn =
           subst (λ r. Went r (draft_seen c.take.new.self) (gone_through c.args.bytes.now)) (sym (told_is.1 ∙ ap Err told_is.2))
           (went_refused c.loop-rest.number c.take.result c.in_err-take_at.field-0.0 (draft_seen c.loop-rest.reader) (draft_seen c.take.new.self) c.loop-rest.rest.now
-          c.in_ok-line.line.now c.in_ok-line.after.now (gone_through c.args.bytes.now) (was_cut (goal.at.returns-in_err-take_at c).In-ok-line)
+          c.in_ok-line.line.now c.in_ok-line.after.now (gone_through c.args.bytes.now) (was_cut (goal.at.returns-in_err-take_at c).In_ok-line)
           c.in_err-take_at.ensures.the_answer_or_its_fault_with_the_line c.take.ensures.what_is_made_of_the_line c.loop-rest.invariant.0);
     }
 
 pub loop-rest-smaller : goal.loop-rest-smaller
-loop-rest-smaller c = cut_shorter _ _ _ (was_cut (goal.at.loop-rest-smaller c).In-ok-line)
+loop-rest-smaller c = cut_shorter _ _ _ (was_cut (goal.at.loop-rest-smaller c).In_ok-line)
 
 pub loop-rest-preserved : goal.loop-rest-preserved
 loop-rest-preserved c =
-    let cut-is = was_cut (goal.at.loop-rest-preserved c).In-ok-line in
-    let made-is = was_taken (goal.at.loop-rest-preserved c).In-ok-take_at in
+    let cut-is = was_cut (goal.at.loop-rest-preserved c).In_ok-line in
+    let made-is = was_taken (goal.at.loop-rest-preserved c).In_ok-take_at in
     let shorter : length c.in_ok-line.after.now < length c.loop-rest.rest.now = cut_shorter _ _ _ cut-is in
     let low : c.loop-rest.number + length c.loop-rest.rest.now ≤ 65537 = c.loop-rest.invariant.2 in (
       walk_more taken ended (draft_seen c.loop-rest.reader) (draft_seen c.take.new.self) c.loop-rest.number c.loop-rest.rest.now c.in_ok-line.line.now c.in_ok-line.after.now cut-is made-is
