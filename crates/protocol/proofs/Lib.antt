@@ -10,3 +10,4 @@ pub mod RuleLaws
 pub mod Standing
 pub mod TypeLaws
 pub mod Walks
+pub mod Equals

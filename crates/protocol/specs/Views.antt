@@ -1,5 +1,8 @@
 -- What the program's tables stand for, and what a call that takes a line comes to.
-use Rattle.std.specs.Prelude.{◌≡◌, ℕ, List, map, Ok, Err, vec_items, Result}
+use Rattle.std.specs.Prelude.{◌≡◌, ◌==◌, ℕ, Bool, List, map, Ok, Err, vec_items, Result}
+use Rattle.std.specs.Cmp.Lexicographic.{pointwise}
+use Rattle.std.specs.Ordering.{eq_of_both, on}
+use Rattle.std.specs.Str.{bytes_eq}
 use Rattle.names.specs.Names.{spelled}
 use Rattle.text.specs.declared.faults.LineFault.{LineFault}
 use Rattle.protocol.specs.Reading.{Draft}
@@ -34,6 +37,14 @@ assignment_seen a = record { variable = a.variable; term = a.term }
 
 abbrev pub rule_seen : Rule → RuleV
 rule_seen r = record { name = spelled r.name; guard = r.guard; sets = map assignment_seen (vec_items r.sets) }
+
+-- Whether two assignments, and two rules, have the same parts.
+abbrev pub sets_the_same : Assignment → Assignment → Bool
+sets_the_same = eq_of_both (on (λ a. a.variable) ◌==◌) (on (λ a. a.term) ◌==◌)
+
+abbrev pub rules_the_same : Rule → Rule → Bool
+rules_the_same =
+    eq_of_both (on (λ r. spelled r.name) bytes_eq) (eq_of_both (on (λ r. r.guard) ◌==◌) (on (λ r. vec_items r.sets) (pointwise sets_the_same)))
 
 abbrev pub rules_seen : RuleTable → List RuleV
 rules_seen t = map rule_seen (vec_items t.rules)

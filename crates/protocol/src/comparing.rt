@@ -2,7 +2,8 @@
 ghost use Rattle.std.specs.Prelude.{◌≡◌, map, Decides};
 ghost use Rattle.names.specs.Names.{spelled};
 ghost use Rattle.protocol.specs.Answers.{protocol_seen};
-ghost use Rattle.protocol.specs.Views.{assignment_seen, parts_seen, rule_seen, terms_seen, types_seen, variables_seen};
+ghost use Rattle.protocol.specs.Views.{assignment_seen, parts_seen, rule_seen, rules_the_same, sets_the_same, terms_seen, types_seen, variables_seen};
+ghost use Rattle.std.specs.Cmp.Lexicographic.{pointwise};
 ghost use Rattle.std.specs.Cmp.Rules.{comparing};
 ghost use Rattle.std.proofs.Common.{rules};
 
@@ -46,29 +47,36 @@ fn same_sorts(a: &[Sort], b: &[Sort]) -> bool
 }
 
 // Two assignments are equal if they say the same, and only then.
-impl PartialEq<Assignment> for Assignment {
-    ghost equals = { λ x y r. Decides r (assignment_seen x ≡ assignment_seen y) };
+impl PartialEq for Assignment {
+    ghost eq = { sets_the_same };
 
     ghost laws = { Prim.search (comparing, rules) };
 
-    fn eq(&self, other: &Assignment) -> bool {
+    fn eq(&self, other: &Assignment) -> bool
+        ensures by_their_numbers { result ≡ sets_the_same self.now other.now }
+        ensures whether_they_say_the_same { Decides result (assignment_seen self.now ≡ assignment_seen other.now) }
+    {
         self.variable == other.variable && self.term == other.term
     }
 }
 
 fn same_assignments(a: &[Assignment], b: &[Assignment]) -> bool
+    ensures pair_by_pair { result ≡ pointwise sets_the_same a.now b.now }
     ensures whether_they_set_the_same { Decides result (map assignment_seen a.now ≡ map assignment_seen b.now) }
 {
     a == b
 }
 
 // Two rules are equal if they say the same, and only then.
-impl PartialEq<Rule> for Rule {
-    ghost equals = { λ x y r. Decides r (rule_seen x ≡ rule_seen y) };
+impl PartialEq for Rule {
+    ghost eq = { rules_the_same };
 
-    ghost laws = { Prim.search (comparing, rules) };
+    ghost laws = { Prim.search (comparing, rules) depth 9 };
 
-    fn eq(&self, other: &Rule) -> bool {
+    fn eq(&self, other: &Rule) -> bool
+        ensures by_their_parts { result ≡ rules_the_same self.now other.now }
+        ensures whether_they_say_the_same { Decides result (rule_seen self.now ≡ rule_seen other.now) }
+    {
         self.name == other.name
             && self.guard == other.guard
             && same_assignments(self.sets.as_slice(), other.sets.as_slice())

@@ -1,6 +1,7 @@
-use Rattle.protocol.specs.Views.{assignment_seen}
+use Rattle.protocol.specs.Views.{assignment_seen, sets_the_same}
+use Rattle.protocol.proofs.Equals.{assignments_decide}
 use Rattle.protocol.proofs.Matching.{mapped_decides}
 use Rattle.protocol.proofs.comparing.same_assignments.Goals as goal
 
 pub returns : goal.returns
-returns c = record { whether_they_set_the_same = mapped_decides assignment_seen _ (λ x y t h. h) _ _ _ c.eq.ensures }
+returns c = record { pair_by_pair = c.eq.ensures; whether_they_set_the_same = mapped_decides assignment_seen sets_the_same assignments_decide _ _ _ c.eq.ensures }
