@@ -833,11 +833,11 @@ mod tests {
             b"protocol=p\ntype=S a b\ntype=T c d e\nvar=x S\nvar=y T\nterm=true\ninit=0\nrule=r 0\nend=protocol\n";
         let mut protocol = Protocol::empty(heap);
         assert!(rt; read(heap, text, &mut protocol).is_ok());
-        assert_eq!(rt; protocol.type_name(1).unwrap_or(b""), b"T");
-        assert_eq!(rt; protocol.value_name(1, 2).unwrap_or(b""), b"e");
+        assert_eq!(rt; protocol.type_name(1).unwrap_or(b""), b"T".as_slice());
+        assert_eq!(rt; protocol.value_name(1, 2).unwrap_or(b""), b"e".as_slice());
         assert_eq!(rt; protocol.value_name(1, 3).is_some(), false);
         assert_eq!(rt; protocol.value_name(2, 0).is_some(), false);
-        assert_eq!(rt; protocol.variable_name(1).unwrap_or(b""), b"y");
+        assert_eq!(rt; protocol.variable_name(1).unwrap_or(b""), b"y".as_slice());
         assert_eq!(rt; protocol.state_count(), 6);
         assert_eq!(rt; protocol.guard(0).unwrap_or(9), 0);
         let copy = protocol.copy(heap)?;
