@@ -7,7 +7,7 @@ use keys::Key;
 use words::{Number, Word};
 
 // The two kinds of files.
-#[derive(Clone, Copy)]
+#[derive(Clone, Copy, Debug, PartialEq, Eq)]
 pub enum File {
     Protocol,
     Proposal,

@@ -4,7 +4,7 @@ ghost use Rattle.line.specs.Operators.{operator_number, operator_of, first_of, l
 
 use words::is_word;
 
-#[derive(Clone, Copy)]
+#[derive(Clone, Copy, Debug, PartialEq, Eq)]
 pub enum Operator {
     Var,
     Val,

@@ -12,7 +12,7 @@ ghost use Rattle.terms.specs.Laws.{PrefixLaw, SortsLaw};
 ghost use Rattle.terms.specs.Sorts.{number as number_of, argument as argument-of, declared, undeclared, missing_term, sort_of_number, sort_is_formula, sort_is_value, differ, sort};
 
 // A term. Its numbers are those of a variable, of a type and one of its values, or of earlier terms.
-#[derive(Clone, Copy, PartialEq, Eq)]
+#[derive(Clone, Copy, Debug, PartialEq, Eq)]
 pub enum Term {
     Var(u16),
     Val(u16, u16),
@@ -27,7 +27,7 @@ pub enum Term {
 }
 
 // The sort of a term: a formula, or a value of the type of this number.
-#[derive(Clone, Copy, PartialEq, Eq)]
+#[derive(Clone, Copy, Debug, PartialEq, Eq)]
 pub enum Sort {
     Formula,
     Value(u16),
@@ -48,7 +48,7 @@ pub struct Declarations<'a> {
 }
 
 // Why a term has no sort, and which of its arguments is at fault; they count from 0.
-#[derive(Clone, Copy)]
+#[derive(Clone, Copy, Debug, PartialEq, Eq)]
 pub enum TermFault {
     // A number of nothing that is declared, or of no earlier term.
     NoSuch(u8),

@@ -5,7 +5,7 @@ ghost use Rattle.text.specs.declared.faults.FileFault.TheVariants.{Line};
 
 use std::fmt;
 
-#[derive(Clone, Copy)]
+#[derive(Clone, Copy, Debug, PartialEq, Eq)]
 pub enum Wrong {
     // A byte outside 32 to 126, or a line of more than 255 bytes.
     Byte,
@@ -59,21 +59,21 @@ impl Wrong {
 }
 
 // What is wrong with a line, and the column where.
-#[derive(Clone, Copy)]
+#[derive(Clone, Copy, Debug, PartialEq, Eq)]
 pub struct LineFault {
     pub wrong: Wrong,
     pub column: usize,
 }
 
 // A line's own fault with the number of the line.
-#[derive(Clone, Copy)]
+#[derive(Clone, Copy, Debug, PartialEq, Eq)]
 pub struct Placed {
     pub line: usize,
     pub fault: LineFault,
 }
 
 // What is wrong with a file.
-#[derive(Clone, Copy)]
+#[derive(Clone, Copy, Debug, PartialEq, Eq)]
 pub enum FileFault {
     // It has more than 65,536 bytes.
     TooLong,

@@ -26,7 +26,7 @@ pub struct Word<'a> {
 }
 
 // A number and the column where it begins.
-#[derive(Clone, Copy)]
+#[derive(Clone, Copy, Debug, PartialEq, Eq)]
 pub struct Number {
     pub value: u16,
     pub column: usize,
