@@ -5,7 +5,7 @@ use Rattle.std.proofs.lemmas.List.{append-nil, append_assoc, nil_from_length}
 use Rattle.std.proofs.lemmas.Bool.{and_parts, eqb-true, le-ltb, cond-true, cond-false}
 use Rattle.std.specs.List.{flat_map, AllByRecursion as All}
 use Rattle.text.proofs.Cuts.{split_together}
-use Rattle.text.specs.Lines.{Split, split, together, byte_fault, tail_fault}
+use Rattle.text.specs.Lines.{split, byte_fault, tail_fault}
 use Rattle.reading.specs.Walk.{Outcome, unless, settled, walk, walk_through}
 use Rattle.text.specs.declared.faults.FileFault.{FileFault}
 use Rattle.text.specs.declared.faults.FileFault.TheVariants.{TooLong}

@@ -1,5 +1,5 @@
 -- What one turn of going through a file comes to.
-use Rattle.std.proofs.Common.{◌≡◌, ℕ, ◌+◌, Bool, List, Some, None, Ok, Err, Result, sym, refl, ap, ◌∙◌, subst, arith}
+use Rattle.std.proofs.Common.{◌≡◌, ℕ, Bool, List, Some, Ok, Err, Result, sym, ap, ◌∙◌, subst, arith}
 use Rattle.reading.proofs.Walks.{walk_refused}
 use Rattle.text.specs.Lines.{cut, split}
 use Rattle.reading.specs.Walk.{Outcome, walk_through}

@@ -1,8 +1,8 @@
 -- A walk that cuts off one line after another is the walk over all the lines.
-use Rattle.std.proofs.Common.{◌≡◌, ℕ, zero, suc, ◌+◌, Bool, true, false, cond, ◌&&◌, eqb, List, [], ◌∷◌, length, Some, None, Ok, Err, Option, Result, sym, refl, ap, ◌∙◌, arith}
+use Rattle.std.proofs.Common.{◌≡◌, ℕ, suc, ◌+◌, Bool, true, false, ◌&&◌, eqb, List, [], ◌∷◌, length, Some, None, Ok, Err, Result, sym, ap, ◌∙◌, arith}
 use Rattle.std.proofs.lemmas.Bool.{eqb-true, and_parts, cond-true, cond-false}
 use Rattle.text.proofs.Cuts.{cut_line, cut_fault, split_together, FirstFault}
-use Rattle.text.specs.Lines.{Split, cut, split, together, byte_fault, tail_fault}
+use Rattle.text.specs.Lines.{cut, split, together}
 use Rattle.text.specs.declared.faults.LineFault.{LineFault}
 use Rattle.reading.specs.Walk.{Outcome, unless, settled, walk, walk_through}
 

@@ -1,5 +1,5 @@
 -- What a term is read as, given what the terms before it are read as, is what its tree is read as.
-use Rattle.std.proofs.Common.{◌≡◌, ℕ, zero, suc, Bool, false, cond, not, ◌&&◌, ◌||◌, eqb, List, [], ◌∷◌, map, get_or, refl, ap, ap₂}
+use Rattle.std.proofs.Common.{◌≡◌, ℕ, zero, suc, false, cond, not, ◌&&◌, ◌||◌, eqb, List, [], ◌∷◌, map, get_or, refl, ap, ap₂}
 use Rattle.semantics.specs.Trees.{Tree, State, bit, is_true, value, occurs}
 use Rattle.semantics.specs.Trees as tree
 use Rattle.terms.specs.declared.Term.{Term}

@@ -1,5 +1,5 @@
 -- The tree of a term with a sort has that sort.
-use Rattle.std.proofs.Common.{◌≡◌, ℕ, zero, suc, ◌<◌, ◌≤◌, Bool, true, false, cond, ◌&&◌, eqb, ltb, leb, List, [], ◌∷◌, length, get_or, take, Some, None, Ok, Option, sym, refl, ap, ◌∙◌, ap₂, ⊎_elim, arith}
+use Rattle.std.proofs.Common.{◌≡◌, ℕ, zero, suc, ◌<◌, ◌≤◌, Bool, true, false, cond, ◌&&◌, eqb, ltb, List, [], ◌∷◌, length, get_or, take, Some, None, Ok, Option, sym, refl, ap, ◌∙◌, ap₂, ⊎_elim, arith}
 use Rattle.std.proofs.lemmas.List.{length-take-le, get_or-take}
 use Rattle.std.proofs.lemmas.Bool.{leb-false, lt-ltb, and_from, cases_order, cond-true}
 use Rattle.std.specs.Option.{option_map}
@@ -11,7 +11,7 @@ use Rattle.terms.specs.declared.Term.{Term}
 use Rattle.terms.specs.declared.Term.TheVariants.{Var, Val, True, False, Eq, Not, And, Or, Imp, Ite}
 use Rattle.terms.specs.declared.TermFault.{TermFault}
 use Rattle.terms.specs.Laws.{SortsLaw, Sorted, sort_seen}
-use Rattle.terms.specs.Sorts.{Tests, first_fault, unless, missing_term, sort_of_number, sort_is_formula, sort_is_value, differ, tests, two_formulas, result_sort, sort}
+use Rattle.terms.specs.Sorts.{Tests, first_fault, unless, missing_term, sort_of_number, sort_is_value, differ, tests, two_formulas, result_sort}
 use Rattle.terms.specs.Trees.{tree_at, tree_of, trees}
 use Rattle.terms.proofs.Tables.{tree_there}
 

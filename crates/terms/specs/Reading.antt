@@ -1,6 +1,6 @@
 -- Readings of a table term by term. Each is tied to the trees by a law: what a term is read as, given what the terms
 -- before it are read as, is what its tree is read as.
-use Rattle.std.specs.Prelude.{ℕ, Bool, false, cond, not, ◌&&◌, ◌||◌, List, map, ◌==◌, slice_index, slice_index_or}
+use Rattle.std.specs.Prelude.{ℕ, Bool, false, cond, not, ◌&&◌, ◌||◌, List, ◌==◌, slice_index, slice_index_or}
 use Rattle.semantics.specs.Trees.{State, bit, is_true}
 use Rattle.terms.specs.declared.Term.{Term}
 use Rattle.terms.specs.declared.Term.TheVariants.{Var, Val, True, False, Eq, Not, And, Or, Imp, Ite}

@@ -1,5 +1,5 @@
 -- The sort of a term: a formula, or a value of a type. Types, variables, values and terms go by number, from 0.
-use Rattle.std.specs.Prelude.{ℕ, ◌+◌, Bool, true, false, cond, List, [], ◌∷◌, length, Some, None, Ok, Err, Option, Result, ◌==◌, nat_le, slice_index, slice_index_or}
+use Rattle.std.specs.Prelude.{ℕ, Bool, true, false, cond, List, [], ◌∷◌, length, Some, None, Ok, Err, Option, Result, ◌==◌, nat_le, slice_index, slice_index_or}
 pub use Rattle.semantics.specs.Trees.{Declared}
 use Rattle.terms.specs.declared.Declarations.{Declarations}
 use Rattle.terms.specs.declared.Sort.{Sort}

@@ -1,5 +1,5 @@
 -- What a loop over the bytes of a word says of it as a name or a number.
-use Rattle.std.proofs.Common.{◌≡◌, ℕ, ◌+◌, ◌-◌, ◌*◌, ◌^◌, ◌<◌, ◌≤◌, true, false, eqb, leb, List, length, get_or, take, Some, None, sym, ap, ◌∙◌, subst, pow-suc, add-one, arith, false-eqb}
+use Rattle.std.proofs.Common.{◌≡◌, ℕ, ◌+◌, ◌-◌, ◌*◌, ◌^◌, ◌<◌, ◌≤◌, true, false, eqb, leb, List, length, get_or, take, Some, None, sym, ap, ◌∙◌, pow-suc, add-one, arith, false-eqb}
 use Rattle.std.proofs.lemmas.List.{take_all}
 use Rattle.std.proofs.lemmas.List.Sums.{fold_more}
 use Rattle.std.proofs.lemmas.Bool.{le-leb, leb-true, and_from, and_parts, and_right, cond-true, cond-false}

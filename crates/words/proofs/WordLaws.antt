@@ -1,12 +1,10 @@
 -- A word that is read where words are left.
-use Rattle.std.proofs.Common.{◌≡◌, ℕ, ◌+◌, ◌-◌, ◌≤◌, cond, ltb, List, length, take, drop, Ok, Err, Result, sym, refl, ap, ◌∙◌}
+use Rattle.std.proofs.Common.{◌≡◌, ℕ, ◌+◌, ◌-◌, ◌≤◌, ltb, List, length, take, drop, Ok, sym, ap, ◌∙◌}
 use native.Mathlib.Nat.{sub-zero}
 use Rattle.std.proofs.lemmas.List.{take_rest}
 use Rattle.std.proofs.lemmas.Bool.{le-ltb, cond-false}
 use Rattle.std.specs.List.{prefix_len}
-use Rattle.text.specs.Faults.{fault}
-use Rattle.words.specs.Words.{WordV, Place, over, column_behind, column, word, word_at, word_length, next, no_space, rest_at}
-use Rattle.text.specs.declared.faults.Wrong.TheVariants as wrong
+use Rattle.words.specs.Words.{word_at, next, no_space, rest_at}
 
 module _ (text : List ℕ) (before at n : ℕ) (left : at ≤ length text) (counted : n ≡ prefix_len no_space (take (length text - at) (drop at text))) where
   same_length : n ≡ prefix_len no_space (drop at text)

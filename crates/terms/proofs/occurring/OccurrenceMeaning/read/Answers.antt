@@ -1,4 +1,4 @@
-use Rattle.std.proofs.Common.{◌≡◌, ap, ◌∙◌}
+use Rattle.std.proofs.Common.{ap, ◌∙◌}
 use Rattle.terms.specs.Reading.{occurs_in}
 use Rattle.terms.proofs.Composed.{occurs_composed}
 use Rattle.terms.proofs.occurring.OccurrenceMeaning.read.Goals as goal

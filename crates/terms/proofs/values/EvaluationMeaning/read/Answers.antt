@@ -1,4 +1,4 @@
-use Rattle.std.proofs.Common.{◌≡◌, ap, ◌∙◌}
+use Rattle.std.proofs.Common.{ap, ◌∙◌}
 use Rattle.terms.specs.Reading.{value_of}
 use Rattle.terms.proofs.Composed.{value_composed}
 use Rattle.terms.proofs.values.EvaluationMeaning.read.Goals as goal
