@@ -1,19 +1,17 @@
 -- What one turn of going through a file comes to.
-use Rattle.std.proofs.Common.{◌≡◌, ℕ, ◌+◌, ◌^◌, ◌<◌, ◌≤◌, Bool, true, false, cond, List, length, get_or, set, IfErr, Some, None, Ok, Err, Option, Result, sym, refl, ap, ◌∙◌, subst, ⊎_elim, arith}
+use Rattle.std.proofs.Common.{◌≡◌, ℕ, ◌+◌, ◌^◌, ◌<◌, Bool, true, false, cond, List, length, get_or, set, IfErr, Ok, Err, Result, ap, ⊎_elim, arith}
 use Rattle.std.proofs.lemmas.List.{get_or-set_same, get_or-set_other, set_past}
 use Rattle.std.proofs.lemmas.Bool.{cases_lt, cases_eq}
-use Rattle.text.specs.Faults.{fault, placed_at}
+use Rattle.text.specs.Faults.{fault}
 use Rattle.keys.specs.Keys.{key_number}
-use Rattle.text.specs.Lines.{cut, parts}
 use Rattle.words.specs.Words.{bind}
 use Rattle.text.specs.declared.faults.LineFault.{LineFault}
-use Rattle.text.specs.declared.faults.Placed.{Placed}
 use Rattle.text.specs.declared.faults.Wrong.TheVariants as wrong
 use Rattle.keys.specs.declared.Key.{Key}
 use Rattle.line.specs.Lines.{LineV, key_of_line}
 use Rattle.line.specs.Reading.{read, recognised}
 use Rattle.line.specs.declared.lines.File.{File}
-use Rattle.account.specs.Accounts.{counted, taken, answered, Small}
+use Rattle.account.specs.Accounts.{counted, taken, Small}
 use Rattle.account.specs.declared.Tally.{Tally}
 
 -- what holds of a fault

@@ -1,11 +1,11 @@
 -- What is known of a file that was read to its end, and of a text that is cut one by one.
-use Rattle.std.proofs.Common.{◌≡◌, ℕ, zero, suc, ◌+◌, ◌≤◌, Bool, true, false, cond, ◌&&◌, eqb, ltb, List, [], ◌∷◌, ◌++◌, length, Some, None, Ok, Err, Option, Result, sym, refl, ap, ◌∙◌, subst, ⊎_elim, add-zero, arith}
+use Rattle.std.proofs.Common.{◌≡◌, ℕ, ◌+◌, ◌≤◌, ◌&&◌, eqb, ltb, List, [], ◌∷◌, ◌++◌, length, Some, None, Ok, Err, Option, Result, sym, refl, ap, ◌∙◌, subst, ⊎_elim, add-zero, arith}
 use Rattle.std.proofs.lemmas.List.{append-nil, nil_from_length}
 use Rattle.std.proofs.lemmas.Bool.{cases_Bool, cond-true, cond-false, and_parts, eqb-true, le-ltb}
 use Rattle.std.specs.List.{flat_map}
 use Rattle.std.specs.Option.{option_map}
 use Rattle.text.proofs.Cuts.{split_together, cut_line, cut_fault, FirstFault}
-use Rattle.text.specs.Lines.{Split, split, together, cut, byte_fault, tail_fault}
+use Rattle.text.specs.Lines.{split, together, cut, byte_fault, tail_fault}
 use Rattle.text.specs.Walk.{Outcome, unless, settled, walk}
 use Rattle.text.specs.declared.faults.FileFault.TheVariants.{Line}
 use Rattle.text.specs.declared.faults.LineFault.{LineFault}

@@ -1,5 +1,5 @@
 -- The account of a file: how many lines of each kind it has, up to its end or to its first fault.
-use Rattle.std.specs.Prelude.{◌≡◌, ℕ, ◌+◌, ◌^◌, ◌<◌, ◌≤◌, Bool, true, false, cond, List, [], ◌∷◌, ◌++◌, length, replicate, Some, None, Ok, Err, Option, Result, ◌==◌, nat_lt, slice_index, slice_set}
+use Rattle.std.specs.Prelude.{◌≡◌, ℕ, ◌+◌, ◌^◌, ◌<◌, ◌≤◌, false, cond, List, [], ◌∷◌, ◌++◌, length, replicate, Some, Ok, Err, Result, ◌==◌, nat_lt, slice_index, slice_set}
 use Rattle.std.specs.List.{flat_map}
 use Rattle.std.specs.Option.{option_map}
 use Rattle.std.specs.Result.{result_err}
@@ -8,7 +8,6 @@ use Rattle.keys.specs.Keys.{key_number}
 use Rattle.text.specs.Lines.{split, cut}
 use Rattle.text.specs.Walk.{Outcome, walk_through}
 use Rattle.words.specs.Words.{bind}
-use Rattle.text.specs.declared.faults.FileFault.{FileFault}
 use Rattle.text.specs.declared.faults.FileFault.TheVariants.{TooLong, Line}
 use Rattle.text.specs.declared.faults.LineFault.{LineFault}
 use Rattle.text.specs.declared.faults.Placed.{Placed}

@@ -1,18 +1,16 @@
 -- A line that may stand where it does has what it asks for.
-use Rattle.std.proofs.Common.{◌≡◌, ℕ, ◌+◌, ◌<◌, ◌≤◌, Bool, true, false, cond, List, ◌++◌, length, Some, None, Ok, Err, codes, Option, Result, sym, refl, ap, ◌∙◌, subst, ⊎_elim, arith, length-append}
+use Rattle.std.proofs.Common.{◌≡◌, ℕ, ◌≤◌, true, List, ◌++◌, length, Some, None, Ok, Err, codes, Option, sym, ap, ◌∙◌, subst, ⊎_elim, arith, length-append}
 use Rattle.std.proofs.lemmas.Bool.{cases_Bool, cond-true, cond-false}
 use Rattle.keys.proofs.KeyLaws.{keyed}
 use Rattle.text.specs.Faults.{fault}
-use Rattle.keys.specs.Keys.{word, line_with, key_of, every_key}
-use Rattle.words.specs.Words.{WordV, first_place}
-use Rattle.text.specs.declared.faults.LineFault.{LineFault}
+use Rattle.keys.specs.Keys.{word, key_of, every_key}
+use Rattle.words.specs.Words.{first_place}
 use Rattle.text.specs.declared.faults.Wrong.TheVariants as wrong
 use Rattle.keys.specs.declared.Key.{Key}
 use Rattle.keys.specs.declared.Key.TheVariants as key
 use Rattle.line.specs.Lines.{LineV, belongs, key_of_line}
 use Rattle.line.specs.Lines as line
 use Rattle.line.specs.Reading.{read, recognised, known_in}
-use Rattle.line.specs.declared.lines.File.{File}
 use Rattle.line.specs.declared.lines.File.TheVariants as file
 use Rattle.protocol.specs.Fitting.{Fit}
 use Rattle.protocol.specs.Reading.{Draft}

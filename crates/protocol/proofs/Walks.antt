@@ -1,14 +1,14 @@
 -- What one turn of going through a protocol file comes to.
-use Rattle.std.proofs.Common.{◌≡◌, ℕ, ◌+◌, List, Some, None, Ok, Err, Result, sym, refl, ap, ◌∙◌, subst, arith}
+use Rattle.std.proofs.Common.{◌≡◌, ℕ, List, Some, Ok, Err, Result, sym, ap, ◌∙◌, subst, arith}
 use Rattle.std.specs.Option.{option_map}
-use Rattle.text.proofs.Cuts.{walk_refused, walk_uncut}
+use Rattle.text.proofs.Cuts.{walk_refused}
 use Rattle.text.specs.Lines.{cut, split}
 use Rattle.text.specs.Walk.{Outcome, walk_through}
 use Rattle.text.specs.declared.faults.FileFault.TheVariants.{Line}
 use Rattle.text.specs.declared.faults.LineFault.{LineFault}
 use Rattle.text.specs.declared.faults.Placed.{Placed}
 use Rattle.protocol.specs.ReadFaults.{placed_take, Went}
-use Rattle.protocol.specs.Reading.{Draft, taken, ended, gone_through}
+use Rattle.protocol.specs.Reading.{Draft, taken, ended}
 use Rattle.protocol.specs.Views.{Came}
 use Rattle.protocol.specs.declared.faults.TakeFault.{TakeFault}
 use Rattle.protocol.specs.declared.faults.TakeFault.TheVariants as take

@@ -1,5 +1,5 @@
 -- What always holds of half a file, so that each table can take the next line.
-use Rattle.std.specs.Prelude.{◌≡◌, ℕ, ◌<◌, length}
+use Rattle.std.specs.Prelude.{◌≡◌, ◌<◌, length}
 use Rattle.protocol.specs.Limits.{TypesFit, VariablesFit}
 use Rattle.protocol.specs.Reading.{Draft}
 

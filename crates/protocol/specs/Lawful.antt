@@ -1,9 +1,8 @@
 -- The limits and sorts that every protocol obeys, in the words of the format. Nothing here speaks of reading.
-use Rattle.std.specs.Prelude.{◌≡◌, ℕ, ◌*◌, ◌^◌, ◌<◌, ◌≤◌, Bool, true, List, [], ◌∷◌, map, length, get_or, take, Ok, slice_index, slice_index_or}
+use Rattle.std.specs.Prelude.{◌≡◌, ℕ, ◌*◌, ◌^◌, ◌<◌, ◌≤◌, true, List, [], ◌∷◌, map, length, get_or, take, Ok, slice_index, slice_index_or}
 use Rattle.terms.specs.Sorts.{Declared, sort, sort_of_number}
 use Rattle.terms.specs.declared.Sort.{Sort}
 use Rattle.terms.specs.declared.Sort.TheVariants.{Formula, Value}
-use Rattle.terms.specs.declared.Term.{Term}
 use Rattle.terms.specs.declared.Term.TheVariants.{True}
 use Rattle.words.specs.Words.{is_name}
 use Rattle.protocol.specs.Records.{TypesV, VariablesV, TermsV, RuleV, AssignmentV, ProtocolV}

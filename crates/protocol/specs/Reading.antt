@@ -9,7 +9,6 @@ use Rattle.text.specs.declared.faults.FileFault.TheVariants as file_fault
 use Rattle.text.specs.declared.faults.LineFault.{LineFault}
 use Rattle.text.specs.declared.faults.Placed.{Placed}
 use Rattle.text.specs.declared.faults.Wrong.TheVariants as wrong
-use Rattle.keys.specs.declared.Key.{Key}
 use Rattle.line.specs.Lines.{LineV}
 use Rattle.line.specs.Lines as line
 use Rattle.line.specs.Reading.{read, recognised}

@@ -2,7 +2,6 @@
 use Rattle.std.specs.Prelude.{◌<◌, ◌≤◌, length}
 use Rattle.line.specs.Lines.{LineV}
 use Rattle.line.specs.Lines as line
-use Rattle.protocol.specs.Limits.{TypesFit, VariablesFit}
 use Rattle.protocol.specs.Records.{ProtocolV}
 
 -- The values of a `type` line begin at a column of a line, and a `set` line has a rule above it.

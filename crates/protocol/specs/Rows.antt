@@ -1,6 +1,6 @@
 -- The order of the lines in a protocol file. Each key stands in a row: 1 `protocol`, 2 `type`, 3 `var`, 4 `term`,
 -- 5 `init`, 6 `rule` and `set`, 7 `end`. Before the first line the row is 0.
-use Rattle.std.specs.Prelude.{ℕ, Bool, true, false, ◌||◌, ◌==◌}
+use Rattle.std.specs.Prelude.{ℕ, Bool, false, ◌||◌, ◌==◌}
 use Rattle.keys.specs.declared.Key.{Key}
 use Rattle.keys.specs.declared.Key.TheVariants.{Protocol, «Type», Var, Term, Init, Rule, Set, End, Proposal, Inv, Cause}
 

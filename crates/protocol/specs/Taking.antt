@@ -1,12 +1,12 @@
 -- What a line adds to a protocol. Each kind of line has its tests in the order of their numbers, and of one number from
 -- the left: the first that applies is the line's fault.
-use Rattle.std.specs.Prelude.{ℕ, ◌+◌, ◌-◌, ◌*◌, ◌^◌, Bool, true, false, cond, not, List, [], ◌∷◌, ◌++◌, map, length, get_or, is_some, Some, None, Ok, Err, Option, Result, ◌==◌, nat_le, nat_lt, slice_index, slice_index_or, slice_set}
+use Rattle.std.specs.Prelude.{ℕ, ◌+◌, ◌-◌, ◌*◌, ◌^◌, Bool, true, false, cond, not, List, [], ◌∷◌, ◌++◌, map, length, get_or, is_some, Ok, Err, Result, ◌==◌, nat_le, nat_lt, slice_index, slice_index_or, slice_set}
 use Rattle.std.specs.Option.{unwrap_or}
 use Rattle.names.specs.Names.{place_in}
 use Rattle.terms.specs.Sorts.{Declared, missing_term, sort_of_number, sort_is_value, differ}
 use Rattle.terms.specs.Sorts as sorts
 use Rattle.terms.specs.declared.Sort.{Sort}
-use Rattle.terms.specs.declared.Sort.TheVariants.{Formula, Value}
+use Rattle.terms.specs.declared.Sort.TheVariants.{Value}
 use Rattle.terms.specs.declared.Term.{Term}
 use Rattle.terms.specs.declared.Term.TheVariants as term
 use Rattle.terms.specs.declared.TermFault.{TermFault}

@@ -1,7 +1,6 @@
-use Rattle.std.proofs.Common.{◌≡◌, ℕ, ltb, length, Some, None, Ok, Err, sym, ap, ◌∙◌, arith}
+use Rattle.std.proofs.Common.{◌≡◌, ℕ, ltb, length, Some, None, sym, ◌∙◌, arith}
 use Rattle.std.proofs.lemmas.Bool.{lt-ltb, cond-true}
-use Rattle.text.specs.declared.faults.FileFault.TheVariants.{TooLong, Line}
-use Rattle.account.specs.Accounts.{outcome, account}
+use Rattle.text.specs.declared.faults.FileFault.TheVariants.{TooLong}
 use Rattle.account.proofs.Wholes.{cut_up_lines, account_is, whole_is}
 use Rattle.account.proofs.survey.Goals as goal
 

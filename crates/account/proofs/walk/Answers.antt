@@ -1,10 +1,9 @@
-use Rattle.std.proofs.Common.{◌≡◌, ◌+◌, ◌^◌, ◌<◌, ◌≤◌, true, false, length, Some, None, Ok, Err, sym, refl, ap, ◌∙◌, subst, arith}
+use Rattle.std.proofs.Common.{◌≡◌, ◌+◌, ◌<◌, ◌≤◌, length, Ok, Err, sym, ap, ◌∙◌, subst, arith}
 use Rattle.std.proofs.lemmas.Result.{err_from_is_err_and}
 use Rattle.text.proofs.Placements.{placed_ok, placed_err}
 use Rattle.text.proofs.Cuts.{cut_shorter, walk_more, walk_refused, walk_uncut, walk_done}
-use Rattle.text.specs.Faults.{placed_at}
 use Rattle.text.specs.Lines.{cut, parts}
-use Rattle.account.specs.Accounts.{taken, answered, counted, Small, outcome}
+use Rattle.account.specs.Accounts.{taken, answered, Small, outcome}
 use Rattle.account.proofs.Turns.{refused_at, small_counted, taken_counted}
 use Rattle.account.proofs.walk.Goals as goal
 use Rattle.account.proofs.walk.Goals.{In_ok-line, In_ok-at_line}

@@ -1,4 +1,4 @@
-use Rattle.std.proofs.Common.{◌≡◌, ℕ, List, get_or, Some, Option, ap, ◌∙◌}
+use Rattle.std.proofs.Common.{◌≡◌, ℕ, List, Some, Option, ap, ◌∙◌}
 use Rattle.names.specs.Names.{spelled}
 use Rattle.protocol.proofs.Nths.{nth_at, nth_past}
 use Rattle.protocol.proofs.looking.name_at.Goals as goal

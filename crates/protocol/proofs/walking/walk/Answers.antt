@@ -1,4 +1,4 @@
-use Rattle.std.proofs.Common.{◌≡◌, ◌+◌, ◌<◌, ◌≤◌, length, Some, None, Ok, Err, sym, refl, ap, ◌∙◌, subst, arith}
+use Rattle.std.proofs.Common.{◌≡◌, ◌+◌, ◌<◌, ◌≤◌, length, Ok, Err, sym, ap, ◌∙◌, subst, arith}
 use Rattle.std.proofs.lemmas.Result.{err_from_is_err_and}
 use Rattle.text.proofs.Cuts.{cut_line, cut_shorter, fine_short, walk_more, walk_uncut, walk_done}
 use Rattle.text.proofs.Placements.{placed_ok, placed_err}
@@ -7,7 +7,7 @@ use Rattle.text.specs.Walk.{walk_through}
 use Rattle.text.specs.declared.faults.FileFault.TheVariants.{Line}
 use Rattle.protocol.specs.Fitting.{Fit}
 use Rattle.protocol.specs.ReadFaults.{Went}
-use Rattle.protocol.specs.Reading.{taken, ended, begun, gone_through}
+use Rattle.protocol.specs.Reading.{taken, ended, gone_through}
 use Rattle.protocol.specs.Views.{draft_seen}
 use Rattle.protocol.specs.declared.read_faults.ReadFault.TheVariants as told
 use Rattle.protocol.proofs.Keeps.{fit_begun, fit_taken}

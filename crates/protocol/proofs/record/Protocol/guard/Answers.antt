@@ -1,6 +1,6 @@
-use Rattle.std.proofs.Common.{map, Some, ap, ◌∙◌}
+use Rattle.std.proofs.Common.{map, ap, ◌∙◌}
 use Rattle.protocol.specs.Looking.{nth, guard_of_rule}
-use Rattle.protocol.specs.Views.{rule_seen, assignment_seen}
+use Rattle.protocol.specs.Views.{rule_seen}
 use Rattle.protocol.proofs.Nths.{part_at, part_past}
 use Rattle.protocol.proofs.record.Protocol.guard.Goals as goal
 
