@@ -3,7 +3,7 @@
 use Rattle.std.proofs.Common.{◌≡◌, ℕ, ◌+◌, ◌≤◌, Bool, true, false, cond, ◌&&◌, eqb, ltb, List, [], ◌∷◌, ◌++◌, length, Some, None, Ok, Err, Option, Result, sym, refl, ap, ◌∙◌, subst, arith}
 use Rattle.std.proofs.lemmas.List.{append-nil, append_assoc, nil_from_length}
 use Rattle.std.proofs.lemmas.Bool.{and_parts, eqb-true, le-ltb, cond-true, cond-false}
-use Rattle.std.specs.List.{flat_map, AllByRecursion as All}
+use Rattle.std.specs.List.{flat_map, AllByRecursion}
 use Rattle.text.proofs.Cuts.{split_together}
 use Rattle.text.specs.Lines.{split, byte_fault, tail_fault}
 use Rattle.reading.specs.Walk.{Outcome, unless, settled, walk, walk_through}
@@ -101,7 +101,7 @@ module _ {S : Type 0} (step : S → ℕ → List ℕ → Result S LineFault) whe
       (here.0, here.1, leads_on here.0 state final (number + 1) lines more here.2 (subst (λ n. Leads state n more final) (omega arith) on))
 
   module _ (ended : S → Bool) where
-    walk_leads : (state final : S) (number : ℕ) (lines : List (List ℕ)) → All (λ line. byte_fault line ≡ None) lines → Leads state number lines final → ended final ≡ true → walk step ended state number lines [] ≡ record { state = final; fault = None }
+    walk_leads : (state final : S) (number : ℕ) (lines : List (List ℕ)) → AllByRecursion (λ line. byte_fault line ≡ None) lines → Leads state number lines final → ended final ≡ true → walk step ended state number lines [] ≡ record { state = final; fault = None }
     walk_leads state final number [] fine here done =
         cond-true (ended state && true) (record { state = state; fault = None }) _ (ap (λ s. ended s && true) here ∙ ap (λ b. b && true) done)
         ∙ ap (λ s. record { state = s; fault = None }) here
@@ -110,7 +110,7 @@ module _ {S : Type 0} (step : S → ℕ → List ℕ → Result S LineFault) whe
         ∙ walk_leads here.0 final (number + 1) lines fine.1 here.2 done
 
     -- A text that comes apart into such lines is read to its end.
-    pub leads_read : (begun final : S) (text : List ℕ) (lines : List (List ℕ)) → split text ≡ record { lines = lines; tail = [] } → All (λ line. byte_fault line ≡ None) lines → length text ≤ 65536 → Leads begun 1 lines final → ended final ≡ true
+    pub leads_read : (begun final : S) (text : List ℕ) (lines : List (List ℕ)) → split text ≡ record { lines = lines; tail = [] } → AllByRecursion (λ line. byte_fault line ≡ None) lines → length text ≤ 65536 → Leads begun 1 lines final → ended final ≡ true
         → read_through step ended begun text ≡ Ok final
     leads_read begun final text lines apart fine short here done =
         cond-false (ltb 65536 (length text)) _ _ (le-ltb 65536 (length text) short)

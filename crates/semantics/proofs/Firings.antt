@@ -3,7 +3,7 @@ use Rattle.std.proofs.Common.{◌≡◌, ℕ, suc, ◌<◌, ◌≤◌, true, fal
 use Rattle.std.proofs.lemmas.List.FromFn.{length-map-range_with_len, get_or-map-range_with_len}
 use Rattle.std.proofs.lemmas.List.{ext_get_or, get_or_past}
 use Rattle.std.proofs.lemmas.Bool.{eqb-true, eqb-false, cond_both, cases_lt, cases_Bool}
-use Rattle.std.specs.List.{ContainsAt as Has, AllByRecursion as All}
+use Rattle.std.specs.List.{ContainsAt, AllByRecursion}
 use Rattle.semantics.specs.Laws.{AssignmentLaw, FiringLaw, IsAfter, StateLaw, ReplacementLaw, PreconditionLaw}
 use Rattle.semantics.specs.Trees.{Tree, Var, Declared, Value, State, IsState, type_of, size, value, is_true}
 use Rattle.semantics.specs.Firing.{Assignment, Rule, assigned, is_set, next_value, fire, replace}
@@ -12,14 +12,14 @@ use Rattle.semantics.proofs.Replacing.{SortedFor, kept, replaced, sorted_for}
 
 -- what an assignment says of the variable, said of one assignment more
 module _ (a : Assignment) (sets : List Assignment) (v : ℕ) (apart : a.variable ≢ v) where
-  one_more : (o : Option Tree) → MatchOption o (All (λ b. b.variable ≢ v) sets) (λ tree. Has sets (record { variable = v; tree = tree })) → MatchOption o (All (λ b. b.variable ≢ v) (a ∷ sets)) (λ tree. Has (a ∷ sets) (record { variable = v; tree = tree }))
+  one_more : (o : Option Tree) → MatchOption o (AllByRecursion (λ b. b.variable ≢ v) sets) (λ tree. ContainsAt sets (record { variable = v; tree = tree })) → MatchOption o (AllByRecursion (λ b. b.variable ≢ v) (a ∷ sets)) (λ tree. ContainsAt (a ∷ sets) (record { variable = v; tree = tree }))
   one_more None none = (apart, none)
   one_more (Some other) has = (suc has.0, omega (arith, has.1), has.2)
 
 pub assignment_law : AssignmentLaw
 assignment_law [] v = tt
 assignment_law (a ∷ sets) v =
-    cond_both (eqb a.variable v) (Some a.tree) (assigned sets v) (λ o. MatchOption o (All (λ b. b.variable ≢ v) (a ∷ sets)) (λ tree. Has (a ∷ sets) (record { variable = v; tree = tree })))
+    cond_both (eqb a.variable v) (Some a.tree) (assigned sets v) (λ o. MatchOption o (AllByRecursion (λ b. b.variable ≢ v) (a ∷ sets)) (λ tree. ContainsAt (a ∷ sets) (record { variable = v; tree = tree })))
     (λ same. (0, omega arith, λ _. λ i. record { variable = eqb-true a.variable v same i; tree = a.tree }))
     (λ other. one_more a sets v (eqb-false a.variable v other) (assigned sets v) (assignment_law sets v))
 

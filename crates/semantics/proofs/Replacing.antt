@@ -2,7 +2,7 @@
 use Rattle.std.proofs.Common.{◌≡◌, ℕ, false, cond, not, ◌&&◌, ◌||◌, eqb, ltb, List, [], ◌∷◌, length, get_or, is_some, IfSome, Some, None, Option, unwrap_or, sym, refl, ap, ◌∙◌, subst, ap₂, arith}
 use Rattle.std.proofs.lemmas.Bool.{lt-ltb, eq-eqb, eqb-true, cond-true, cond_both}
 use Rattle.std.specs.Option.{option_map}
-use Rattle.std.specs.List.{AllByRecursion as All}
+use Rattle.std.specs.List.{AllByRecursion}
 use Rattle.semantics.specs.Laws.{OccurrenceLaw, UntouchedLaw, PreconditionSortLaw}
 use Rattle.semantics.specs.Trees.{Tree, Var, Val, True, False, Eq, Not, And, Or, Imp, Ite, Declared, Formula, Value, State, EachVariable, type_of, given_formula, shared_type, sort_of_tree, bit, is_true, value}
 use Rattle.semantics.specs.Firing.{Assignment, SortedAssignment, assigned, is_set, replace}
@@ -68,7 +68,7 @@ occurrence_law tree s s' same = sym (ap (λ t. value t s) (untouched [] tree (λ
 abbrev pub SortedFor : Declared → ℕ → Option Tree → Type 0
 SortedFor d v o = IfSome o (λ tree. SortedAssignment d (record { variable = v; tree = tree }))
 
-pub sorted_for : (d : Declared) (sets : List Assignment) (v : ℕ) → All (SortedAssignment d) sets → SortedFor d v (assigned sets v)
+pub sorted_for : (d : Declared) (sets : List Assignment) (v : ℕ) → AllByRecursion (SortedAssignment d) sets → SortedFor d v (assigned sets v)
 sorted_for d [] v all = tt
 sorted_for d (a ∷ sets) v all =
     cond_both (eqb a.variable v) (Some a.tree) (assigned sets v) (SortedFor d v)
@@ -79,7 +79,7 @@ same_sort : (d : Declared) (v : ℕ) (o : Option Tree) → SortedFor d v o → s
 same_sort d v None sorted = refl
 same_sort d v (Some other) sorted = sorted.of_its_type ∙ sym (cond-true (ltb v (length d.variables)) (Some (Value (type_of d v))) None (lt-ltb v (length d.variables) sorted.declared))
 
-module _ (d : Declared) (sets : List Assignment) (all : All (SortedAssignment d) sets) where
+module _ (d : Declared) (sets : List Assignment) (all : AllByRecursion (SortedAssignment d) sets) where
   replaced_sort : (tree : Tree) → sort_of_tree d (replace sets tree) ≡ sort_of_tree d tree
   replaced_sort (Var v) = same_sort d v (assigned sets v) (sorted_for d sets v all)
   replaced_sort (Val of k) = refl

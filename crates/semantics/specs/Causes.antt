@@ -1,13 +1,13 @@
 -- Why a rule keeps an invariant. A reader must believe the three causes: the three lines of `Keeps`.
 use Rattle.std.specs.Prelude.{◌≡◌, List, [], ◌∷◌}
-use Rattle.std.specs.List.{ContainsAt as Has, AllByRecursion as All}
+use Rattle.std.specs.List.{ContainsAt, AllByRecursion}
 use Rattle.semantics.specs.Trees.{Tree, Declared, State, IsState, TrueIn}
 use Rattle.semantics.specs.Firing.{Rule, precondition}
 use Rattle.semantics.specs.Reachable.{Protocol, Initial}
 
 -- In every state in which all of the hypotheses are true, the conclusion is true.
 abbrev pub Follows : Declared → List Tree → Tree → Type 0
-Follows d hypotheses conclusion = (s : State) → IsState d s → All (TrueIn s) hypotheses → TrueIn s conclusion
+Follows d hypotheses conclusion = (s : State) → IsState d s → AllByRecursion (TrueIn s) hypotheses → TrueIn s conclusion
 
 -- A cause: the guard alone; that nothing changes; or the guard together with a partner, a formula that is true before.
 pub data Cause : Type 0 where
@@ -26,7 +26,7 @@ Keeps d rule formula (With partner) = Follows d (rule.guard ∷ partner ∷ []) 
 abbrev pub PartnerAmong : List Tree → Cause → Type 0
 PartnerAmong formulas ByGuard = Unit {0}
 PartnerAmong formulas Unchanged = Unit {0}
-PartnerAmong formulas (With partner) = Has formulas partner
+PartnerAmong formulas (With partner) = ContainsAt formulas partner
 
 -- The rule keeps the formula by some cause, with a partner from among the formulas if it needs one.
 abbrev pub HasCause : Declared → List Tree → Rule → Tree → Type 0
@@ -34,8 +34,8 @@ HasCause d formulas rule formula = (cause : Cause) × Keeps d rule formula cause
 
 -- Every rule keeps every one of the formulas by some cause.
 abbrev pub AllCaused : Protocol → List Tree → Type 0
-AllCaused p formulas = All (λ rule. All (HasCause p.declared formulas rule) formulas) p.rules
+AllCaused p formulas = AllByRecursion (λ rule. AllByRecursion (HasCause p.declared formulas rule) formulas) p.rules
 
 -- Every one of the formulas is true in every initial state.
 abbrev pub InitiallyTrue : Protocol → List Tree → Type 0
-InitiallyTrue p formulas = (s : State) → IsState p.declared s → Initial p s → All (TrueIn s) formulas
+InitiallyTrue p formulas = (s : State) → IsState p.declared s → Initial p s → AllByRecursion (TrueIn s) formulas

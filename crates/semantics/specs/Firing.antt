@@ -1,7 +1,7 @@
 -- Rules and their firing. A reader must believe what the state after a rule is, and what it is to write trees in the
 -- place of variables; the precondition is that, done with what the rule assigns.
 use Rattle.std.specs.Prelude.{◌≡◌, ℕ, ◌<◌, Bool, cond, List, [], ◌∷◌, map, length, is_some, Some, None, Option, ◌==◌, slice_index}
-use Rattle.std.specs.List.{range_with_len, AllByRecursion as All}
+use Rattle.std.specs.List.{range_with_len, AllByRecursion}
 use Rattle.std.specs.Option.{unwrap_or}
 use Rattle.semantics.specs.Trees.{Tree, Var, Val, True, False, Eq, Not, And, Or, Imp, Ite, Declared, Formula, Value, State, type_of, sort_of_tree, value, TrueIn}
 
@@ -63,4 +63,4 @@ pub record SortedAssignment (d : Declared) (a : Assignment) : Type 0 where
 -- A well-sorted rule has a formula for its guard, and every one of its assignments is well sorted.
 pub record SortedRule (d : Declared) (rule : Rule) : Type 0 where
   pub guard : sort_of_tree d rule.guard ≡ Some Formula
-  pub sets : All (SortedAssignment d) rule.sets
+  pub sets : AllByRecursion (SortedAssignment d) rule.sets

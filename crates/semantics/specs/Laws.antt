@@ -1,6 +1,6 @@
 -- The laws. Each is proved: none adds to what a reader must believe.
 use Rattle.std.specs.Prelude.{◌≡◌, ℕ, ◌<◌, true, false, ◌≢◌, ◌⊎◌, ◌↔◌, List, length, Some, MatchOption, slice_index}
-use Rattle.std.specs.List.{ContainsAt as Has, AllByRecursion as All}
+use Rattle.std.specs.List.{ContainsAt, AllByRecursion}
 use Rattle.semantics.specs.Trees.{Tree, True, False, Eq, Not, And, Or, Imp, Ite, Declared, Sort, State, IsState, TrueIn, EachVariable, size, sort_of_tree, value, true_in}
 use Rattle.semantics.specs.Firing.{Assignment, Rule, SortedRule, assigned, is_set, next_value, fire, precondition}
 use Rattle.semantics.specs.Reachable.{Protocol, Reachable, SortedProtocol}
@@ -36,7 +36,7 @@ OccurrenceLaw = (tree : Tree) (s s' : State) → EachVariable (λ v. slice_index
 abbrev pub AssignmentLaw : Type 0
 AssignmentLaw =
     (sets : List Assignment) (v : ℕ) →
-    MatchOption (assigned sets v) (All (λ a. a.variable ≢ v) sets) (λ tree. Has sets (record { variable = v; tree = tree }))
+    MatchOption (assigned sets v) (AllByRecursion (λ a. a.variable ≢ v) sets) (λ tree. ContainsAt sets (record { variable = v; tree = tree }))
 
 -- The state `s'` has the variables of `s`, each with its next value.
 pub record IsAfter (rule : Rule) (s s' : State) : Type 0 where
@@ -81,4 +81,4 @@ ReachableLaw = (p : Protocol) (s : State) → SortedProtocol p → Reachable p s
 abbrev pub ConsistencyLaw : Type 0
 ConsistencyLaw =
     (p : Protocol) (invariants : List Tree) → SortedProtocol p → InitiallyTrue p invariants → AllCaused p invariants →
-    (s : State) → Reachable p s → All (TrueIn s) invariants
+    (s : State) → Reachable p s → AllByRecursion (TrueIn s) invariants
