@@ -1,5 +1,5 @@
 -- One term after another: what is written so far, and what is left, come to what the whole comes to.
-use Rattle.std.proofs.Common.{◌≡◌, ℕ, suc, ◌+◌, ◌<◌, ◌≤◌, Bool, true, false, cond, ◌&&◌, ltb, List, [], ◌∷◌, ◌++◌, length, get_or, drop, Ok, Err, Result, sym, refl, ap, ◌∙◌, subst, arith}
+use Rattle.std.proofs.Common.{◌≡◌, ℕ, suc, ◌+◌, ◌<◌, ◌≤◌, Bool, true, false, ◌&&◌, ltb, List, [], ◌∷◌, ◌++◌, length, get_or, drop, Ok, Err, Result, sym, refl, ap, ◌∙◌, subst, arith}
 use Rattle.std.proofs.lemmas.List.{drop_more, drop_all, length_push}
 use Rattle.std.proofs.lemmas.Bool.{cond-true, cond-false, cond_both}
 use Rattle.terms.specs.declared.Assignment.{Assignment}
@@ -8,7 +8,7 @@ use Rattle.terms.specs.declared.Term.TheVariants.{Var}
 use Rattle.precondition.specs.Parts.{parts, up_to}
 use Rattle.precondition.specs.Steps.{Numbered, Went, replaced_by, term_at, work_seen}
 use Rattle.precondition.specs.Tables.{formed, lowest, named, renamed}
-use Rattle.precondition.specs.Writing.{Work, Answer, Came, IsPrecondition, all_taken, answer_seen, written, all_there, answer, begun, next, noted, taken, then, with_result, with_term}
+use Rattle.precondition.specs.Writing.{Work, Came, IsPrecondition, all_taken, answer_seen, written, all_there, answer, begun, next, noted, taken, then, with_result, with_term}
 use Rattle.precondition.specs.declared.answers.Draft.{Draft}
 use Rattle.precondition.specs.declared.answers.Precondition.{Precondition}
 use Rattle.precondition.specs.declared.faults.Fault.{Fault}

@@ -1,5 +1,5 @@
 -- The work as it goes on: every result is the lowest number of its tree.
-use Rattle.std.proofs.Common.{◌≡◌, ℕ, ◌+◌, ◌<◌, ◌≤◌, Bool, true, false, cond, eqb, ltb, ◌⊎◌, List, [], ◌∷◌, ◌++◌, map, length, get_or, take, drop, Some, None, Ok, Err, Option, Result, unwrap_or, sym, refl, ap, ◌∙◌, subst, ap₂, subst₂, inl, inr, ⊎_elim, arith}
+use Rattle.std.proofs.Common.{◌≡◌, ℕ, ◌+◌, ◌<◌, ◌≤◌, Bool, true, false, cond, eqb, ltb, List, [], ◌∷◌, ◌++◌, map, length, get_or, drop, Some, None, Ok, Option, Result, unwrap_or, sym, refl, ap, ◌∙◌, subst, ap₂, subst₂, ⊎_elim, arith}
 use Rattle.std.proofs.ByRecursion.{All-weaker}
 use Rattle.std.proofs.lemmas.List.{append-nil, append_assoc, length-append, length_push, take-append-drop, get_or_append_left, get_or_push}
 use Rattle.std.proofs.lemmas.Bool.{cases_lt, cond_both, and_parts, ltb-true, ltb-false, both_ways}
@@ -20,7 +20,6 @@ use Rattle.precondition.specs.Steps.{First, Numbered, assigned_term, replaced_by
 use Rattle.precondition.specs.Tables.{arguments, renamed, formed, lowest, named}
 use Rattle.precondition.specs.Writing.{Work, begun, with_result, with_term, noted, replaced, taken, all_there}
 use Rattle.precondition.specs.declared.faults.Refusal.{Refusal}
-use Rattle.precondition.specs.declared.faults.Refusal.TheVariants.{ScratchFull}
 use Rattle.precondition.proofs.Canonical.{Known, Canonical, lower, rebuilt, canonical_push, found_place}
 use Rattle.precondition.proofs.Forming.{tree_here, earlier, lower_term, known_term, lowest_at, place_own, table_canonical}
 use Rattle.precondition.proofs.Marking.{Marked}

@@ -1,6 +1,6 @@
 -- Writing and reading are each other's way back.
 use Rattle.std.specs.Prelude.{◌≡◌, ℕ, ◌≤◌, true, List, [], map, length, None, Ok}
-use Rattle.std.specs.List.{AllByRecursion as All}
+use Rattle.std.specs.List.{AllByRecursion}
 use Rattle.text.specs.Lines.{printable, byte_fault, split}
 use Rattle.keys.specs.declared.Key.{Key}
 use Rattle.words.specs.Words.{every}
@@ -39,4 +39,4 @@ EveryByteMayStand =
 -- Written lines come apart again at their line feeds, and nothing follows the last.
 abbrev pub LinesComeApart : Type 0
 LinesComeApart =
-    (file : File) (ss : List Said) → All (Sound file) ss → split (written_lines file ss) ≡ record { lines = map (written_line file) ss; tail = [] }
+    (file : File) (ss : List Said) → AllByRecursion (Sound file) ss → split (written_lines file ss) ≡ record { lines = map (written_line file) ss; tail = [] }

@@ -1,6 +1,6 @@
 -- What a line may say.
 use Rattle.std.specs.Prelude.{◌≡◌, ℕ, ◌<◌, ◌≤◌, true, List, length}
-use Rattle.std.specs.List.{AllByRecursion as All}
+use Rattle.std.specs.List.{AllByRecursion}
 use Rattle.words.specs.Words.{is_name}
 use Rattle.line.specs.Lines.{belongs}
 use Rattle.line.specs.declared.lines.File.{File}
@@ -37,7 +37,7 @@ KindSound (form.Partner name) = Named name
 -- A type has two values or more.
 abbrev pub PartsSound : Said → Type 0
 PartsSound (line.Protocol name) = Named name
-PartsSound (line.«Type» name values) = Named name × (2 ≤ length values) × All Named values
+PartsSound (line.«Type» name values) = Named name × (2 ≤ length values) × AllByRecursion Named values
 PartsSound (line.Var name of) = Named name × Named of
 PartsSound (line.Term form) = FormSound form
 PartsSound (line.Init formula) = Short formula

@@ -4,4 +4,4 @@
 
 pub mod laws;
 pub mod lines;
-pub mod words;
+pub mod pieces;

@@ -8,7 +8,7 @@ ghost use Rattle.writing.specs.Forms.{form_said, kind_said};
 ghost use Rattle.writing.specs.Said.{said};
 ghost use Rattle.writing.specs.Written.{spaced, each_spaced, written_number, form_words, kind_words, words_said, written_line};
 
-use crate::words::{write_key, write_next_number, write_next_word, write_number, write_word};
+use crate::pieces::{write_key, write_next_number, write_next_word, write_number, write_word};
 use keys::Key;
 use line::lines::{File, Form, Kind, Line};
 use std::alloc::AllocError;

@@ -1,4 +1,4 @@
-use Rattle.std.proofs.Common.{◌≡◌, length, drop}
+use Rattle.std.proofs.Common.{◌≡◌, drop}
 use Rattle.precondition.specs.Parts.{marked_from}
 use Rattle.precondition.proofs.marks.mark.Given as goal
 

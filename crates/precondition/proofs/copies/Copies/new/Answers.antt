@@ -3,7 +3,6 @@ use Rattle.std.proofs.lemmas.List.{length-map, length-take-le, take_all}
 use Rattle.std.proofs.lemmas.Bool.{cond-true, cond-false, le-ltb}
 use Rattle.terms.proofs.Tables.{trees_none}
 use Rattle.terms.specs.Trees.{trees, tree_of}
-use Rattle.terms.specs.declared.Term.{Term}
 use Rattle.precondition.specs.Places.{place}
 use Rattle.precondition.specs.Steps.{First, term_at}
 use Rattle.precondition.specs.Tables.{formed, lowest, named, renamed}
@@ -39,10 +38,13 @@ loop-n-preserved c =
 
 pub invariant_of-result : goal.invariant_of-result
 invariant_of-result c =
-    let all = take_all c.loop-n.n c.args.terms.now c.loop-n-test.false in (
-      c.if-terms-gt-MOST_TERMS.false,
-      (sym c.if-not-is_formed.ensures.each_argument_is_earlier, (c.loop-n.invariant.0 ∙ ap lowest all, (c.loop-n.invariant.1 ∙ ap named all, tt))),
-    )
+    let all = take_all c.loop-n.n c.args.terms.now c.loop-n-test.false in
+    record {
+      few = c.if-terms-gt-MOST_TERMS.false;
+      well_formed = sym c.if-not-is_formed.ensures.each_argument_is_earlier;
+      right = c.loop-n.invariant.0 ∙ ap lowest all;
+      rightly_named = c.loop-n.invariant.1 ∙ ap named all;
+    }
 
 pub returns : goal.returns
 returns c =

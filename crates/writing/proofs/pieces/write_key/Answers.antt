@@ -1,7 +1,7 @@
 use Rattle.std.proofs.Common.{vec_items}
 use Rattle.keys.specs.Keys.{word}
 use Rattle.writing.proofs.Appends.{key_appended}
-use Rattle.writing.proofs.words.write_key.Goals as goal
+use Rattle.writing.proofs.pieces.write_key.Goals as goal
 
 pub returns : goal.returns
 returns c = record {

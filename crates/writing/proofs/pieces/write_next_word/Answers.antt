@@ -1,7 +1,7 @@
 use Rattle.std.proofs.Common.{[], ◌∷◌, vec_items, sym, ap, append-nil}
 use Rattle.writing.specs.Written.{each_spaced}
 use Rattle.writing.proofs.Appends.{appended_then}
-use Rattle.writing.proofs.words.write_next_word.Goals as goal
+use Rattle.writing.proofs.pieces.write_next_word.Goals as goal
 
 pub returns : goal.returns
 returns c =

@@ -1,7 +1,7 @@
 use Rattle.std.proofs.Common.{◌^◌, ◌<◌, vec_items, ap, arith}
 use Rattle.writing.proofs.Appends.{digit_appended, digits_appended}
-use Rattle.writing.proofs.words.+write_number.Goals as goal
-use Rattle.writing.proofs.words.+write_number.Goals.{then-n-ge10+in_ok-write_number, else-n-ge10}
+use Rattle.writing.proofs.pieces.+write_number.Goals as goal
+use Rattle.writing.proofs.pieces.+write_number.Goals.{then-n-ge10+in_ok-write_number, else-n-ge10}
 
 pub returns : goal.returns
 returns t c =
