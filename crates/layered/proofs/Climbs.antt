@@ -1,9 +1,9 @@
 -- Lines that are written one after another are taken one after another, each adding what it says.
-use Rattle.std.proofs.Common.{◌≡◌, ℕ, zero, suc, ◌+◌, ◌<◌, ◌≤◌, true, cond, List, [], ◌∷◌, ◌++◌, map, length, get_or, Ok, Err, Result, sym, refl, ap, ◌∙◌, subst, arith}
-use Rattle.std.proofs.ByRecursion.{All-from_get_or, All-append}
-use Rattle.std.proofs.lemmas.List.{map-append, length-map}
+use Rattle.std.proofs.Common.{◌≡◌, ℕ, suc, ◌+◌, ◌<◌, ◌≤◌, true, List, [], ◌∷◌, ◌++◌, map, length, get_or, Ok, Err, Result, sym, refl, ap, ◌∙◌, subst, arith}
+use Rattle.std.proofs.ByRecursion.{All-from_get_or}
+use Rattle.std.proofs.lemmas.List.{map-append}
 use Rattle.std.proofs.lemmas.Bool.{cond-true}
-use Rattle.std.specs.List.{flat_map, AllByRecursion as All}
+use Rattle.std.specs.List.{AllByRecursion}
 use Rattle.text.specs.Faults.{fault}
 use Rattle.text.specs.declared.faults.LineFault.{LineFault}
 use Rattle.text.specs.declared.faults.Wrong.TheVariants as wrong
@@ -25,25 +25,25 @@ use Rattle.writing.specs.Said as says
 use Rattle.writing.specs.Sound.{Sound}
 use Rattle.writing.specs.Written.{spaced, words_said, written_line}
 use Rattle.reading.proofs.Laws.{Leads, leads_on}
-use Rattle.layered.specs.Reading.{Draft, taken, line_taken}
+use Rattle.layered.specs.Reading.{Draft, taken, line_taken as line_adds}
 use Rattle.layered.specs.Records.{ProtocolV}
 use Rattle.layered.proofs.LawWhole.{at_row}
 
 -- What a line says turns one protocol into another, wherever its words stand.
 abbrev pub Turns : Said → ProtocolV → ProtocolV → Type 0
-Turns (says.Protocol name) p q = (w : WordV) → w.bytes ≡ name → line_taken (line.Protocol w) p ≡ Ok q
-Turns (says.«Type» name values) p q = (w vs : WordV) → w.bytes ≡ name → texts (words_left (start vs.bytes)) ≡ values → line_taken (line.«Type» w vs) p ≡ Ok q
-Turns (says.Var name of) p q = (w o : WordV) → w.bytes ≡ name → o.bytes ≡ of → line_taken (line.Var w o) p ≡ Ok q
-Turns (says.Term form) p q = (f : FormV) → form_said f ≡ form → line_taken (line.Term f) p ≡ Ok q
-Turns (says.Init formula) p q = (n : Number) → n.value ≡ formula → line_taken (line.Init n) p ≡ Ok q
-Turns (says.Rule name guard) p q = (w : WordV) (n : Number) → w.bytes ≡ name → n.value ≡ guard → line_taken (line.Rule w n) p ≡ Ok q
-Turns (says.Set variable term) p q = (w : WordV) (n : Number) → w.bytes ≡ variable → n.value ≡ term → line_taken (line.Set w n) p ≡ Ok q
-Turns says.End p q = line_taken line.End p ≡ Ok q
+Turns (says.Protocol name) p q = (w : WordV) → w.bytes ≡ name → line_adds (line.Protocol w) p ≡ Ok q
+Turns (says.«Type» name values) p q = (w vs : WordV) → w.bytes ≡ name → texts (words_left (start vs.bytes)) ≡ values → line_adds (line.«Type» w vs) p ≡ Ok q
+Turns (says.Var name of) p q = (w o : WordV) → w.bytes ≡ name → o.bytes ≡ of → line_adds (line.Var w o) p ≡ Ok q
+Turns (says.Term form) p q = (f : FormV) → form_said f ≡ form → line_adds (line.Term f) p ≡ Ok q
+Turns (says.Init formula) p q = (n : Number) → n.value ≡ formula → line_adds (line.Init n) p ≡ Ok q
+Turns (says.Rule name guard) p q = (w : WordV) (n : Number) → w.bytes ≡ name → n.value ≡ guard → line_adds (line.Rule w n) p ≡ Ok q
+Turns (says.Set variable term) p q = (w : WordV) (n : Number) → w.bytes ≡ variable → n.value ≡ term → line_adds (line.Set w n) p ≡ Ok q
+Turns says.End p q = line_adds line.End p ≡ Ok q
 Turns (says.Proposal name) p q = ⊥
 Turns (says.Inv name formula) p q = ⊥
 Turns (says.Cause rule invariant kind) p q = ⊥
 
-turned : (l : LineV) (p q : ProtocolV) → Turns (said l) p q → line_taken l p ≡ Ok q
+turned : (l : LineV) (p q : ProtocolV) → Turns (said l) p q → line_adds l p ≡ Ok q
 turned (line.Protocol w) p q turns = turns w refl
 turned (line.«Type» w vs) p q turns = turns w vs refl refl
 turned (line.Var w o) p q turns = turns w o refl refl
@@ -74,14 +74,14 @@ line_taken k s p q row adds may =
     let again = every_line_can_be_kept file.Protocol s adds.sound in
     let l = again.1.0 in
     let rest = spaced (words_said file.Protocol s) in
-    let made : line_taken l p ≡ Ok q = turned l p q (subst (λ t. Turns t p q) (sym again.1.2) adds.turns) in
+    let made : line_adds l p ≡ Ok q = turned l p q (subst (λ t. Turns t p q) (sym again.1.2) adds.turns) in
     let here : may_follow file.Protocol row (key_said s) ≡ true = subst (λ j. may_follow file.Protocol row j ≡ true) (sym adds.kind) may in
     let put : Key → ProtocolV → Result Draft LineFault = λ j m. Ok (at_row (row_of file.Protocol j) m) in
-    let words = λ (r : Result LineV LineFault). bind r (λ l. bind (line_taken l p) (put (key_said s))) in
+    let words = λ (r : Result LineV LineFault). bind r (λ l. bind (line_adds l p) (put (key_said s))) in
     go_on (recognised file.Protocol (text_of s)) _ (key_said s, rest) again.0
     ∙ cond-true (may_follow file.Protocol row (key_said s)) (words (read file.Protocol (key_said s) rest)) (Err (fault wrong.Key 1)) here
     ∙ ap words again.1.1
-    ∙ go_on (line_taken l p) (put (key_said s)) q made
+    ∙ go_on (line_adds l p) (put (key_said s)) q made
     ∙ ap (λ j. put j q) adds.kind
 
 -- Lines that lead from one half of a file to another, whatever the number of the first.
@@ -118,5 +118,5 @@ climbs k again at (s ∷ ss) row may each number = (
 )
 
 -- All of them may be written.
-pub all_sound : (k : Key) (at : ℕ → ProtocolV) (ss : List Said) → ((i : ℕ) → i < length ss → Adds k (get_or ss i says.End) (at i) (at (suc i))) → All (Sound file.Protocol) ss
+pub all_sound : (k : Key) (at : ℕ → ProtocolV) (ss : List Said) → ((i : ℕ) → i < length ss → Adds k (get_or ss i says.End) (at i) (at (suc i))) → AllByRecursion (Sound file.Protocol) ss
 all_sound k at ss each = All-from_get_or (Sound file.Protocol) ss says.End (λ i inside. (each i inside).sound)

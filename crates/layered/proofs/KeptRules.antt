@@ -1,9 +1,9 @@
 -- The written lines of the rules are taken again, one after another.
-use Rattle.std.proofs.Common.{◌≡◌, ℕ, zero, suc, ◌+◌, ◌-◌, ◌<◌, ◌≤◌, true, false, cond, not, eqb, leb, List, [], ◌∷◌, ◌++◌, map, length, get_or, take, set, is_some, Some, Ok, unwrap_or, sym, refl, ap, ◌∙◌, subst, arith, take-suc}
+use Rattle.std.proofs.Common.{◌≡◌, ℕ, suc, ◌+◌, ◌-◌, ◌<◌, true, false, not, eqb, leb, List, [], ◌∷◌, ◌++◌, map, length, get_or, take, set, is_some, Some, Ok, unwrap_or, sym, refl, ap, ◌∙◌, subst, arith, take-suc}
 use Rattle.std.proofs.ByRecursion.{All-append}
 use Rattle.std.proofs.lemmas.List.{length-map, length_push, length-take-le, get_or-map, get_or_push, get_or-take, set_at, take_all, take-map}
 use Rattle.std.proofs.lemmas.Bool.{lt-leb, ne_eqb, eq-eqb, cond-true, cond-false}
-use Rattle.std.specs.List.{flat_map, AllByRecursion as All}
+use Rattle.std.specs.List.{flat_map, AllByRecursion}
 use Rattle.names.specs.Names.{place_in}
 use Rattle.terms.specs.Sorts.{sort_is_value, differ}
 use Rattle.terms.specs.declared.Assignment.{Assignment}
@@ -28,10 +28,10 @@ use Rattle.tables.proofs.FormLaws.{name_new, place_found}
 use Rattle.tables.specs.Lawful.{LawfulVariables, LawfulTerms, declared_by}
 use Rattle.tables.specs.Records.{VariablesV}
 use Rattle.tables.specs.Taking.{number_in}
-use Rattle.layered.specs.Reading.{Draft, with_rules}
+use Rattle.layered.specs.Reading.{with_rules}
 use Rattle.layered.specs.Records.{ProtocolV}
 use Rattle.layered.specs.Written.{set_line, rule_lines}
-use Rattle.layered.proofs.Climbs.{Adds, Reaches, reaches_on, row_behind, row_stays, line_taken, climbs, all_sound, text_of, step}
+use Rattle.layered.proofs.Climbs.{Adds, Reaches, reaches_on, row_stays, line_taken, climbs, all_sound, text_of, step}
 use Rattle.layered.proofs.LawWhole.{at_row}
 
 -- a variable that none of the assignments sets
@@ -191,7 +191,7 @@ module _ (p : ProtocolV) (s : List RuleV) (variables : LawfulVariables p.types p
           (climbs key.Set refl so_far (map (set_line v) r.sets) 6 refl set_adds (number + 1)),
     )
 
-    rule_sound : All (Sound file.Protocol) (says.Rule r.name r.guard ∷ map (set_line v) r.sets)
+    rule_sound : AllByRecursion (Sound file.Protocol) (says.Rule r.name r.guard ∷ map (set_line v) r.sets)
     rule_sound = (rule_adds.sound, all_sound key.Set so_far (map (set_line v) r.sets) set_adds)
 
 -- groups of lines, each of which leads to row 6
@@ -212,7 +212,7 @@ module _ {X : Type 0} (lines : X → List Said) (d : X) where
       (subst (λ r. Reaches (at_row 6 (at 1)) (flat_map lines xs) (at_row r (at (suc (length xs))))) (row_same xs)
       (groups (λ i. at (suc i)) xs 6 refl (λ i row inside. each (suc i) row (omega arith))))
 
-  all_groups : (P : Said → Type 0) (xs : List X) → ((i : ℕ) → i < length xs → All P (lines (get_or xs i d))) → All P (flat_map lines xs)
+  all_groups : (P : Said → Type 0) (xs : List X) → ((i : ℕ) → i < length xs → AllByRecursion P (lines (get_or xs i d))) → AllByRecursion P (flat_map lines xs)
   all_groups P [] each = tt
   all_groups P (x ∷ xs) each = All-append P (lines x) (flat_map lines xs) (each 0 (omega arith)) (all_groups P xs (λ i inside. each (suc i) (omega arith)))
 
@@ -230,5 +230,5 @@ module _ (p : ProtocolV) (s : List RuleV) (variables : LawfulVariables p.types p
   pub rules_reach : Reaches (at_row 5 (with_rules p [])) (rule_lines p.variables s) (at_row (row_after (one_rule p) no_rule 5 s) (with_rules p (take (length s) s)))
   rules_reach = groups (one_rule p) no_rule (λ i. with_rules p (take i s)) s 5 refl (λ i row inside may. rule_reaches p s variables terms laws i inside row may)
 
-  pub rules_sound : All (Sound file.Protocol) (rule_lines p.variables s)
+  pub rules_sound : AllByRecursion (Sound file.Protocol) (rule_lines p.variables s)
   rules_sound = all_groups (one_rule p) no_rule (Sound file.Protocol) s (λ i inside. rule_sound p s variables terms laws i inside)

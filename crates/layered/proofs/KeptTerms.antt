@@ -1,11 +1,10 @@
 -- The written lines of the terms and of the initial formulas are taken again, one after another.
-use Rattle.std.proofs.Common.{◌≡◌, ℕ, suc, ◌<◌, ◌≤◌, List, [], ◌∷◌, ◌++◌, map, length, get_or, take, Ok, sym, refl, ap, ◌∙◌, subst, arith, take-suc}
+use Rattle.std.proofs.Common.{◌≡◌, ℕ, suc, ◌<◌, List, [], ◌∷◌, ◌++◌, length, get_or, take, Ok, sym, refl, ap, ◌∙◌, subst, arith, take-suc}
 use Rattle.std.proofs.lemmas.List.{length-map, length-take-le, get_or-map}
 use Rattle.std.proofs.lemmas.Bool.{lt-leb}
 use Rattle.terms.specs.Sorts.{sort_is_value}
 use Rattle.terms.specs.declared.Sort.TheVariants.{Formula}
 use Rattle.terms.specs.declared.Term.TheVariants as term
-use Rattle.words.specs.declared.Number.{Number}
 use Rattle.keys.specs.declared.Key.TheVariants as key
 use Rattle.writing.proofs.Oks.{go_on}
 use Rattle.writing.specs.Said as says

@@ -1,14 +1,14 @@
 -- The written lines of the types and of the variables are taken again, one after another.
-use Rattle.std.proofs.Common.{◌≡◌, ℕ, zero, suc, ◌+◌, ◌*◌, ◌^◌, ◌<◌, ◌≤◌, Bool, true, false, cond, not, ◌&&◌, ◌||◌, ltb, leb, List, [], ◌∷◌, ◌++◌, map, length, get_or, take, is_some, Some, None, Ok, unwrap_or, sym, refl, ap, ◌∙◌, subst, ⊎_elim, le_trans, mul-le-mul_left, arith, take-suc}
+use Rattle.std.proofs.Common.{◌≡◌, ℕ, zero, suc, ◌*◌, ◌^◌, ◌<◌, ◌≤◌, false, not, ◌&&◌, ltb, List, [], ◌∷◌, ◌++◌, length, get_or, take, is_some, Some, None, Ok, unwrap_or, sym, refl, ap, ◌∙◌, subst, ⊎_elim, le_trans, mul-le-mul_left, arith, take-suc}
 use native.Mathlib.Nat.{one-le-mul}
 use Rattle.std.proofs.ByRecursion.{All-from_get_or}
 use Rattle.std.proofs.lemmas.Slice.Eq.{bytes_eq-Decides}
-use Rattle.std.proofs.lemmas.List.{length-map, length-take-le, get_or-map, get_or_default}
+use Rattle.std.proofs.lemmas.List.{length-map, length-take-le, get_or-map}
 use Rattle.std.proofs.lemmas.Bool.{le-ltb, lt-leb, cases_Bool, and_left, and_right, or_from, cond-false}
-use Rattle.std.specs.List.{ContainsAt as Has, AllByRecursion as All}
+use Rattle.std.specs.List.{AllByRecursion}
 use Rattle.std.specs.Str.{bytes_eq}
 use Rattle.names.specs.Names.{place_in}
-use Rattle.words.specs.Repeats.{seen_before, repeat_in, AllDiffer}
+use Rattle.words.specs.Repeats.{seen_before, repeat_in}
 use Rattle.words.specs.Words.{WordV}
 use Rattle.keys.specs.declared.Key.TheVariants as key
 use Rattle.writing.proofs.Oks.{go_on}
@@ -42,7 +42,7 @@ module _ {A B C : Type 0} (f : A → B → C) where
   getD_paired (x ∷ xs) (y ∷ ys) (suc i) a b c same inside = getD_paired xs ys i a b c (omega arith) (omega arith)
 
 -- words of which no two have the same bytes: none comes again
-seen_none : (all : List WordV) (column : ℕ) (bytes : List ℕ) → All (λ (u : WordV). u.bytes ≡ bytes → u.column ≡ column) all → seen_before all column bytes ≡ false
+seen_none : (all : List WordV) (column : ℕ) (bytes : List ℕ) → AllByRecursion (λ (u : WordV). u.bytes ≡ bytes → u.column ≡ column) all → seen_before all column bytes ≡ false
 seen_none [] column bytes same = refl
 seen_none (u ∷ all) column bytes same =
     or_from (ltb u.column column && bytes_eq u.bytes bytes) (seen_before all column bytes)
@@ -52,7 +52,7 @@ seen_none (u ∷ all) column bytes same =
     (cases_Bool (bytes_eq u.bytes bytes)))
     (seen_none all column bytes same.1)
 
-first_none : (all ws : List WordV) → All (λ (w : WordV). All (λ (u : WordV). u.bytes ≡ w.bytes → u.column ≡ w.column) all) ws → repeat_in all ws ≡ None
+first_none : (all ws : List WordV) → AllByRecursion (λ (w : WordV). AllByRecursion (λ (u : WordV). u.bytes ≡ w.bytes → u.column ≡ w.column) all) ws → repeat_in all ws ≡ None
 first_none all [] same = refl
 first_none all (w ∷ ws) same = cond-false (seen_before all w.column w.bytes) _ _ (seen_none all w.column w.bytes same.0) ∙ first_none all ws same.1
 
@@ -128,17 +128,17 @@ module _ (t : TypesV) (laws : LawfulTypes t) where
       })
 
 -- fewer variables have no more states
-positive : (sizes kinds : List ℕ) → All (λ k. 1 ≤ get_or sizes k 0) kinds → 1 ≤ product sizes kinds
+positive : (sizes kinds : List ℕ) → AllByRecursion (λ k. 1 ≤ get_or sizes k 0) kinds → 1 ≤ product sizes kinds
 positive sizes [] each = omega arith
 positive sizes (k ∷ kinds) each = one-le-mul each.0 (positive sizes kinds each.1)
 
-fewer : (sizes kinds : List ℕ) (i : ℕ) → All (λ k. 1 ≤ get_or sizes k 0) kinds → product sizes (take i kinds) ≤ product sizes kinds
+fewer : (sizes kinds : List ℕ) (i : ℕ) → AllByRecursion (λ k. 1 ≤ get_or sizes k 0) kinds → product sizes (take i kinds) ≤ product sizes kinds
 fewer sizes kinds zero each = positive sizes kinds each
 fewer sizes [] (suc i) each = omega arith
 fewer sizes (k ∷ kinds) (suc i) each = mul-le-mul_left (get_or sizes k 0) (fewer sizes kinds i each.1)
 
 module _ (t : TypesV) (types : LawfulTypes t) (v : VariablesV) (laws : LawfulVariables t v) where
-  all_sized : All (λ k. 1 ≤ get_or t.sizes k 0) v.kinds
+  all_sized : AllByRecursion (λ k. 1 ≤ get_or t.sizes k 0) v.kinds
   all_sized =
       All-from_get_or (λ k. 1 ≤ get_or t.sizes k 0) v.kinds 0
       (λ i inside.

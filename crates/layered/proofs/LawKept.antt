@@ -3,7 +3,7 @@ use Rattle.std.proofs.Common.{◌≡◌, ℕ, suc, ◌<◌, ◌≤◌, true, Lis
 use Rattle.std.proofs.ByRecursion.{All-append}
 use Rattle.std.proofs.lemmas.List.{length-map, take_all}
 use Rattle.std.specs.Result.{result_map_both}
-use Rattle.std.specs.List.{AllByRecursion as All}
+use Rattle.std.specs.List.{AllByRecursion}
 use Rattle.text.specs.Lines.{byte_fault}
 use Rattle.keys.specs.declared.Key.{Key}
 use Rattle.keys.specs.declared.Key.TheVariants as key
@@ -16,7 +16,7 @@ use Rattle.writing.specs.Said as says
 use Rattle.writing.specs.Sound.{Sound}
 use Rattle.reading.proofs.Laws.{leads_read}
 use Rattle.rules.specs.Taking.{no_rule}
-use Rattle.tables.specs.Lawful.{LawfulTypes, LawfulVariables, LawfulTerms, product}
+use Rattle.tables.specs.Lawful.{product}
 use Rattle.tables.specs.Records.{TypesV, VariablesV, TermsV}
 use Rattle.tables.specs.Written.{form_of}
 use Rattle.layered.specs.Lawful.{Lawful}
@@ -37,7 +37,7 @@ row_reaches k again at ss row may each some q is =
     subst (λ d. Reaches (at_row row (at 0)) ss d) (λ j. at_row (row_behind_some k row ss some j) (is j)) (climbs k again at ss row may each)
 
 -- lines that may stand in the file and are short
-all_fine : (ss : List Said) → All (Sound file.Protocol) ss → All (λ s. length (text_of s) ≤ 255) ss → All (λ line. byte_fault line ≡ None) (map text_of ss)
+all_fine : (ss : List Said) → AllByRecursion (Sound file.Protocol) ss → AllByRecursion (λ s. length (text_of s) ≤ 255) ss → AllByRecursion (λ line. byte_fault line ≡ None) (map text_of ss)
 all_fine [] sound short = tt
 all_fine (s ∷ ss) sound short = ((every_byte_may_stand file.Protocol s sound.0).1 short.0, all_fine ss sound.1 short.1)
 
@@ -165,7 +165,7 @@ module _ (p : ProtocolV) (lawful : Lawful p) where
       let to-6 = reaches_on begun (at_row 5 p5) (at_row row p) five (rule_lines v p.rules) to-5 reach_6 in
       reaches_on begun (at_row row p) (at_row 7 p) (lines_before_end p) (says.End ∷ []) to-6 reach_7
 
-  lines_sound : All (Sound file.Protocol) (lines_of p)
+  lines_sound : AllByRecursion (Sound file.Protocol) (lines_of p)
   lines_sound =
       let P = Sound file.Protocol in
       let one = says.Protocol p.name ∷ [] in

@@ -1,8 +1,7 @@
 -- What was made of the lines so far is written as just those lines, so that a file is its protocol's written form.
-use Rattle.std.proofs.Common.{◌≡◌, ℕ, suc, ◌+◌, ◌-◌, ◌<◌, ◌≤◌, true, false, ◌&&◌, eqb, ltb, leb, List, [], ◌∷◌, ◌++◌, map, length, get_or, take, drop, set, Ok, sym, refl, ap, ◌∙◌, subst, ⊎_elim, arith}
+use Rattle.std.proofs.Common.{◌≡◌, ℕ, suc, ◌+◌, ◌-◌, ◌<◌, ◌≤◌, true, ltb, leb, List, [], ◌∷◌, ◌++◌, map, length, get_or, take, set, Ok, sym, refl, ap, ◌∙◌, subst, ⊎_elim, arith}
 use Rattle.std.proofs.lemmas.List.{append-nil, append_assoc, map_push, flat_map_more, set_split, set-get_or, drop_all}
 use Rattle.std.proofs.lemmas.Bool.{eqb-true, eqb-false, ltb-false, leb-true, and_parts, not-false, false≢true, cases_lt}
-use Rattle.std.specs.List.{flat_map}
 use Rattle.text.specs.Faults.{fault}
 use Rattle.text.specs.declared.faults.Wrong.TheVariants as wrong
 use Rattle.words.specs.Words.{WordV, is_name}
@@ -16,7 +15,6 @@ use Rattle.line.specs.Lines as line
 use Rattle.line.specs.Rows.{row_of, may_follow}
 use Rattle.line.specs.declared.lines.File.TheVariants as file
 use Rattle.writing.proofs.Taken.{nothing_is_lost}
-use Rattle.writing.specs.Forms.{form_said}
 use Rattle.writing.specs.Said.{Said, said}
 use Rattle.writing.specs.Said as says
 use Rattle.writing.specs.Written.{written_lines}
@@ -29,7 +27,7 @@ use Rattle.tables.proofs.FormLaws.{found_name, form_kept}
 use Rattle.tables.proofs.RowLaws.{within}
 use Rattle.tables.specs.Lawful.{declared_by}
 use Rattle.tables.specs.Records.{TypesV, VariablesV, TermsV}
-use Rattle.tables.specs.Taking.{unless, number_in, named_term, columns, at_argument, new_term, term_taken, no_such, no_formula, full, value_words}
+use Rattle.tables.specs.Taking.{number_in, named_term, columns, at_argument, new_term, term_taken, no_such, no_formula, full, value_words}
 use Rattle.tables.specs.Written.{form_of}
 use Rattle.layered.specs.Reading.{Draft, begun, taken, ended, protocol_of, line_taken, name_taken, with_name, with_types, with_variables, with_terms, with_initial, with_rules}
 use Rattle.layered.specs.Records.{ProtocolV, empty}
@@ -37,7 +35,7 @@ use Rattle.layered.specs.Taking.{type_taken, variable_taken, initial_taken, type
 use Rattle.layered.specs.VariableTests.{variable_tests}
 use Rattle.layered.specs.Written.{paired, type_lines, variable_lines, term_lines, initial_lines, set_line, rule_lines, lines_before_end, lines_of, written}
 use Rattle.layered.proofs.Climbs.{text_of}
-use Rattle.layered.proofs.LawWhole.{Kept, Taken, at_row, part_ok, kept_begun, kept_taken, taken_from, made_ok}
+use Rattle.layered.proofs.LawWhole.{Kept, at_row, part_ok, kept_begun, kept_taken, taken_from, made_ok}
 
 -- the lines of the first rows
 abbrev first_1 : ProtocolV → List Said

@@ -3,7 +3,7 @@
 use Rattle.std.proofs.Common.{◌≡◌, ℕ, ◌+◌, ◌*◌, ◌^◌, ◌<◌, ◌≤◌, false, cond, not, eqb, ltb, List, [], ◌∷◌, ◌++◌, map, length, get_or, is_some, IfSome, Some, Ok, Err, unwrap_or, sym, ap, ◌∙◌, subst, ⊎_elim, arith}
 use Rattle.std.proofs.lemmas.List.{map_push, append_assoc, length_push, get_or_append_left, get_or_push, get_or_past}
 use Rattle.std.proofs.lemmas.Bool.{cond_both, cond-false, cases_order, leb-false, lt-leb, ltb-false}
-use Rattle.std.specs.List.{AllByRecursion as All}
+use Rattle.std.specs.List.{AllByRecursion}
 use Rattle.names.specs.Names.{place_in}
 use Rattle.text.specs.Faults.{fault}
 use Rattle.text.specs.declared.faults.Wrong.TheVariants as wrong
@@ -22,7 +22,7 @@ abbrev Inside : ℕ → ℕ → Type 0
 Inside most column = (1 ≤ column) × (column ≤ most)
 
 abbrev AllInside : ℕ → List WordV → Type 0
-AllInside most ws = All (λ w. Inside most w.column) ws
+AllInside most ws = AllByRecursion (λ w. Inside most w.column) ws
 
 inside_lengthened : (most b c : ℕ) (ws : List WordV) → Inside most c → AllInside most ws → AllInside most (lengthened b c ws)
 inside_lengthened most b c [] here behind = (here, tt)

@@ -1,9 +1,9 @@
 -- What is written from a lawful proposal is read as that proposal.
-use Rattle.std.proofs.Common.{◌≡◌, ℕ, ◌+◌, ◌<◌, ◌≤◌, Bool, true, false, not, ◌&&◌, eqb, ltb, leb, List, [], ◌∷◌, ◌++◌, map, length, None, Ok, sym, refl, ap, ◌∙◌, subst, ⊎_elim, arith, length-append}
+use Rattle.std.proofs.Common.{◌≡◌, ℕ, ◌+◌, ◌≤◌, true, not, eqb, ltb, leb, List, [], ◌∷◌, ◌++◌, map, length, None, Ok, sym, refl, ap, ◌∙◌, subst, ⊎_elim, arith, length-append}
 use Rattle.std.proofs.lemmas.Slice.Eq.{bytes_eq-Decides}
-use Rattle.std.proofs.lemmas.List.{append_assoc, append-nil, drop_at, length-map, length_push, map_push}
+use Rattle.std.proofs.lemmas.List.{append_assoc, append-nil, drop_at, length-map, length_push}
 use Rattle.std.proofs.lemmas.Bool.{lt-ltb, le-leb, eq-eqb, ne_eqb, or_left, or_right, and_from, not_from_true, not_from_false, cases_lt, cond-true}
-use Rattle.std.specs.List.{AllByRecursion as All}
+use Rattle.std.specs.List.{AllByRecursion}
 use Rattle.std.specs.Str.{bytes_eq}
 use Rattle.terms.specs.declared.Sort.{Sort}
 use Rattle.terms.specs.declared.Term.{Term}
@@ -31,15 +31,15 @@ use Rattle.writing.specs.Sound.{Sound}
 use Rattle.writing.specs.Written.{spaced, words_said, written_line}
 use Rattle.reading.proofs.Laws.{Leads, leads_read}
 use Rattle.reading.specs.Files.{read_through}
-use Rattle.tables.specs.Lawful.{Names, LawfulTypes, LawfulVariables, LawfulTerms, declared_by}
-use Rattle.tables.specs.Records.{TermsV, behind}
+use Rattle.tables.specs.Lawful.{Names, LawfulTerms, declared_by}
+use Rattle.tables.specs.Records.{TermsV}
 use Rattle.tables.specs.Taking.{term_taken}
 use Rattle.tables.proofs.FormLaws.{next_sound, term_taken_again}
 use Rattle.layered.specs.Lawful.{Lawful}
 use Rattle.layered.specs.Records.{ProtocolV}
 use Rattle.proposal.specs.Laws.{ShortLine, EveryProposalCanBeKept}
 use Rattle.proposal.specs.Lawful.{LawfulInvariants, LawfulClaims, LawfulWith}
-use Rattle.proposal.specs.Reading.{Draft, begun, ended, taken, line_taken, finished, with_name, with_terms, with_invariants, with_claims}
+use Rattle.proposal.specs.Reading.{Draft, begun, ended, taken, line_taken as line_adds, finished, with_name, with_terms, with_invariants, with_claims}
 use Rattle.proposal.specs.Records.{InvariantV, ProposalV, empty, followed_by}
 use Rattle.proposal.specs.Taking.{name_taken, invariant_names, take_invariant, claim_taken}
 use Rattle.proposal.specs.Written.{term_said, invariant_said, claim_said, rule_names, lines_before_end, lines_of, written}
@@ -49,10 +49,10 @@ use Rattle.proposal.proofs.RowsAgain.{passed, invariant_sound, invariant_again, 
 
 -- every line that says this is taken, wherever its words stand
 abbrev Taking : ProtocolV → ℕ → ProposalV → ProposalV → Said → Type 0
-Taking p number q made (says.Proposal name) = (w : WordV) → w.bytes ≡ name → line_taken p number (line.Proposal w) q ≡ Ok made
-Taking p number q made (says.Term form) = (f : FormV) → form_said f ≡ form → line_taken p number (line.Term f) q ≡ Ok made
-Taking p number q made (says.Inv name formula) = (w : WordV) (n : Number) → w.bytes ≡ name → n.value ≡ formula → line_taken p number (line.Inv w n) q ≡ Ok made
-Taking p number q made (says.Cause rule invariant kind) = (r i : WordV) (j : KindV) → r.bytes ≡ rule → i.bytes ≡ invariant → kind_said j ≡ kind → line_taken p number (line.Cause r i j) q ≡ Ok made
+Taking p number q made (says.Proposal name) = (w : WordV) → w.bytes ≡ name → line_adds p number (line.Proposal w) q ≡ Ok made
+Taking p number q made (says.Term form) = (f : FormV) → form_said f ≡ form → line_adds p number (line.Term f) q ≡ Ok made
+Taking p number q made (says.Inv name formula) = (w : WordV) (n : Number) → w.bytes ≡ name → n.value ≡ formula → line_adds p number (line.Inv w n) q ≡ Ok made
+Taking p number q made (says.Cause rule invariant kind) = (r i : WordV) (j : KindV) → r.bytes ≡ rule → i.bytes ≡ invariant → kind_said j ≡ kind → line_adds p number (line.Cause r i j) q ≡ Ok made
 Taking p number q made says.End = q ≡ made
 Taking p number q made (says.Protocol name) = ⊥
 Taking p number q made (says.«Type» name values) = ⊥
@@ -61,7 +61,7 @@ Taking p number q made (says.Init formula) = ⊥
 Taking p number q made (says.Rule name guard) = ⊥
 Taking p number q made (says.Set variable term) = ⊥
 
-takes : (p : ProtocolV) (number : ℕ) (q made : ProposalV) (l : LineV) → Taking p number q made (said l) → line_taken p number l q ≡ Ok made
+takes : (p : ProtocolV) (number : ℕ) (q made : ProposalV) (l : LineV) → Taking p number q made (said l) → line_adds p number l q ≡ Ok made
 takes p number q made (line.Proposal name) how = how name refl
 takes p number q made (line.Term form) how = how form refl
 takes p number q made (line.Inv name n) how = how name n refl refl
@@ -83,7 +83,7 @@ line_taken p row number q made s sound may how =
     go_on (recognised file.Proposal (written_line file.Proposal s)) _ (key_said s, spaced (words_said file.Proposal s)) kept.0
     ∙ cond-true (may_follow file.Proposal row (key_said s)) _ _ may
     ∙ go_on (read file.Proposal (key_said s) (spaced (words_said file.Proposal s))) _ l kept.1.1
-    ∙ go_on (line_taken p number l q) _ made (takes p number q made l (subst (Taking p number q made) (sym kept.1.2) how))
+    ∙ go_on (line_adds p number l q) _ made (takes p number q made l (subst (Taking p number q made) (sym kept.1.2) how))
 
 -- a line may follow the rows from the first to its own
 may_stand : (row : ℕ) (k : Key) → 1 ≤ row → row ≤ 4 → row ≤ row_of file.Proposal k → belongs file.Proposal k ≡ true → is_below_its_rule file.Proposal row k ≡ true → may_follow file.Proposal row k ≡ true
@@ -102,7 +102,7 @@ abbrev Goes : Draft → ℕ → List Said → Draft → Type 0
 Goes draft number [] final = draft ≡ final
 Goes draft number (s ∷ ss) final = Sound file.Proposal s × ((made : Draft) × (taken draft number (written_line file.Proposal s) ≡ Ok made) × Goes made (number + 1) ss final)
 
-goes_sound : (draft final : Draft) (number : ℕ) (ss : List Said) → Goes draft number ss final → All (Sound file.Proposal) ss
+goes_sound : (draft final : Draft) (number : ℕ) (ss : List Said) → Goes draft number ss final → AllByRecursion (Sound file.Proposal) ss
 goes_sound draft final number [] go = tt
 goes_sound draft final number (s ∷ ss) go = (go.0, goes_sound go.1.0 final (number + 1) ss go.1.2)
 
@@ -256,7 +256,7 @@ module _ (p : ProtocolV) (q : ProposalV) (lawful : Lawful p) (obeys : LawfulWith
       λ i. with_terms q (record { terms = drop_at p.terms.terms q.terms.terms n refl i; sorts = drop_at p.terms.sorts q.terms.sorts n lawful.obeys.terms.all_sorted i })
 
 -- sound and short lines have no byte at fault
-no_byte_fault : (ss : List Said) → All (Sound file.Proposal) ss → All ShortLine ss → All (λ line. byte_fault line ≡ None) (map (written_line file.Proposal) ss)
+no_byte_fault : (ss : List Said) → AllByRecursion (Sound file.Proposal) ss → AllByRecursion ShortLine ss → AllByRecursion (λ line. byte_fault line ≡ None) (map (written_line file.Proposal) ss)
 no_byte_fault [] sound short = tt
 no_byte_fault (s ∷ ss) sound short = ((every_byte_may_stand file.Proposal s sound.0).1 short.0, no_byte_fault ss sound.1 short.1)
 

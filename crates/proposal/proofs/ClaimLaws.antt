@@ -1,32 +1,25 @@
 -- What the lines of a proposal add obeys the limits and sorts.
-use Rattle.std.proofs.Common.{◌≡◌, ℕ, ◌+◌, ◌-◌, ◌<◌, ◌≤◌, Bool, true, false, cond, not, ◌&&◌, ◌||◌, eqb, ltb, leb, ◌⊎◌, List, [], ◌∷◌, ◌++◌, map, length, get_or, take, drop, is_some, IfSome, Some, None, Ok, Err, Option, Result, unwrap_or, sym, refl, ap, ◌∙◌, subst, inl, inr, ⊎_elim, arith}
-use Rattle.std.proofs.lemmas.List.{length_push, length-map, get_or_push, get_or_append_left, get_or_default, map_push}
-use Rattle.std.proofs.lemmas.Bool.{leb-false, leb-true, ltb-true, eqb-true, or_cases, and_parts, not-false, cases_lt, false≢true}
+use Rattle.std.proofs.Common.{◌≡◌, ℕ, ◌+◌, ◌-◌, ◌<◌, true, false, not, ◌&&◌, eqb, ltb, List, [], ◌∷◌, ◌++◌, length, get_or, is_some, IfSome, None, Ok, sym, ap, ◌∙◌, subst, inl, inr, ⊎_elim, arith}
+use Rattle.std.proofs.lemmas.List.{length_push, get_or_push, get_or_append_left, get_or_default, map_push}
+use Rattle.std.proofs.lemmas.Bool.{leb-false, ltb-true, eqb-true, or_cases, and_parts, not-false, cases_lt}
 use Rattle.text.specs.Faults.{fault}
-use Rattle.text.specs.declared.faults.LineFault.{LineFault}
 use Rattle.text.specs.declared.faults.Wrong.TheVariants as wrong
-use Rattle.words.specs.Words.{WordV, is_name, bind, first_place}
+use Rattle.words.specs.Words.{WordV, is_name}
 use Rattle.words.specs.declared.Number.{Number}
 use Rattle.names.specs.Names.{place_in}
 use Rattle.terms.specs.declared.Sort.TheVariants.{Formula}
 use Rattle.line.specs.Forms.{FormV, KindV}
 use Rattle.line.specs.Forms as kind
-use Rattle.line.specs.Lines.{LineV, key_of_line}
-use Rattle.line.specs.Lines as line
-use Rattle.line.specs.Reading.{read, recognised}
-use Rattle.line.specs.Rows.{row_of, may_follow}
-use Rattle.line.specs.declared.lines.File.TheVariants as file
-use Rattle.tables.specs.Lawful.{Names, LawfulTerms, IsOf, declared_by}
+use Rattle.tables.specs.Lawful.{Names, IsOf}
 use Rattle.tables.specs.Records.{TermsV}
-use Rattle.tables.specs.Taking.{used, unknown, full, number_in, no_such, no_formula, formula_tests, new_term, term_taken}
-use Rattle.tables.proofs.Answered.{AllFalse, bind_ok, first_ok, same_ok, unless_ok}
+use Rattle.tables.specs.Taking.{used, unknown, full, number_in, formula_tests}
+use Rattle.tables.proofs.Answered.{AllFalse, bind_ok, unless_ok}
 use Rattle.tables.proofs.Named.{no_names, names_push, none_from, placed, some_inside, each_push}
 use Rattle.tables.proofs.TermLaws.{formula_is}
 use Rattle.proposal.specs.Causes.{partner_of}
 use Rattle.proposal.specs.Lawful.{LawfulInvariants, LawfulClaim, LawfulClaims, Before}
-use Rattle.proposal.specs.Records.{InvariantV, ProposalV}
-use Rattle.proposal.specs.Taking.{name_taken, invariant_names, formula_in, take_invariant, kind_tests, cause_of, claim_of, before, no_claim, comes_after, claim_taken}
-use Rattle.proposal.specs.declared.claims.Cause.{Cause}
+use Rattle.proposal.specs.Records.{InvariantV}
+use Rattle.proposal.specs.Taking.{invariant_names, formula_in, take_invariant, kind_tests, cause_of, claim_of, before, no_claim, comes_after, claim_taken}
 use Rattle.proposal.specs.declared.claims.Claim.{Claim}
 
 -- Before the first line there is nothing that could break a limit.

@@ -1,5 +1,5 @@
 -- A proposal that was read is written with just the bytes that it was read from.
-use Rattle.std.proofs.Common.{◌≡◌, ℕ, ◌+◌, true, List, [], ◌∷◌, ◌++◌, map, Ok, sym, refl, ap, ◌∙◌, subst, arith}
+use Rattle.std.proofs.Common.{◌≡◌, ℕ, true, List, [], ◌∷◌, ◌++◌, map, Ok, sym, refl, ap, ◌∙◌, subst, arith}
 use Rattle.std.proofs.lemmas.Bool.{eqb-true}
 use Rattle.std.specs.List.{flat_map}
 use Rattle.text.specs.Lines.{split}
@@ -18,7 +18,7 @@ use Rattle.tables.proofs.Answered.{bind_ok, first_ok, same_ok}
 use Rattle.tables.proofs.LineLaws.{line_key}
 use Rattle.layered.specs.Records.{ProtocolV}
 use Rattle.proposal.specs.Laws.{NothingIsLost}
-use Rattle.proposal.specs.Reading.{Draft, begun, ended, taken, line_taken, finished, proposal_of}
+use Rattle.proposal.specs.Reading.{Draft, begun, ended, taken, line_taken, finished}
 use Rattle.proposal.specs.Written.{lines_of, written}
 use Rattle.proposal.proofs.Kept.{Kept, draft_at, kept_begun, kept_taken, same_protocol}
 use Rattle.proposal.proofs.Spoken.{Spoken, line_spoken}

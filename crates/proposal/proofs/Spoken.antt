@@ -1,11 +1,10 @@
 -- What the lines of a proposal file say is what was made of them.
-use Rattle.std.proofs.Common.{◌≡◌, ℕ, ◌+◌, ◌<◌, ◌≤◌, Bool, true, false, not, ltb, List, [], ◌∷◌, ◌++◌, map, length, get_or, drop, is_some, Ok, Err, Result, sym, refl, ap, ◌∙◌, subst, arith, length-append}
+use Rattle.std.proofs.Common.{◌≡◌, ℕ, ◌≤◌, true, false, not, ltb, List, [], ◌∷◌, ◌++◌, map, length, get_or, drop, is_some, Ok, sym, refl, ap, ◌∙◌, subst, arith, length-append}
 use lib.Seq.{drop-append-le}
 use Rattle.std.proofs.lemmas.List.{append_assoc, append-nil, map_push, nil_from_length, drop_at}
-use Rattle.std.proofs.lemmas.Bool.{ltb-false, not-false, false≢true}
+use Rattle.std.proofs.lemmas.Bool.{ltb-false, not-false}
 use Rattle.std.specs.Str.{bytes_eq}
 use Rattle.text.specs.Faults.{fault}
-use Rattle.text.specs.declared.faults.LineFault.{LineFault}
 use Rattle.text.specs.declared.faults.Wrong.TheVariants as wrong
 use Rattle.names.specs.Names.{place_in}
 use Rattle.terms.specs.Sorts.{sort}
@@ -25,15 +24,14 @@ use Rattle.writing.specs.Said.{Said, said}
 use Rattle.writing.specs.Said as says
 use Rattle.writing.specs.Written.{written_line}
 use Rattle.tables.specs.Lawful.{declared_by}
-use Rattle.tables.specs.Records.{TypesV, VariablesV, TermsV}
-use Rattle.tables.specs.Written.{form_of}
+use Rattle.tables.specs.Records.{TermsV}
 use Rattle.tables.specs.Taking.{unknown, used, full, number_in, formula_tests, named_term, columns, at_argument, new_term, term_taken}
 use Rattle.tables.proofs.Answered.{AllFalse, bind_ok, same_ok, unless_ok}
 use Rattle.tables.proofs.FormLaws.{found_name, form_kept}
 use Rattle.tables.proofs.RowLaws.{within}
 use Rattle.layered.specs.Records.{ProtocolV}
 use Rattle.proposal.specs.Reading.{Draft, line_taken, finished, with_name, with_terms, with_invariants, with_claims}
-use Rattle.proposal.specs.Records.{InvariantV, ProposalV, followed_by}
+use Rattle.proposal.specs.Records.{InvariantV, ProposalV}
 use Rattle.proposal.specs.Taking.{name_taken, invariant_names, formula_in, take_invariant, kind_tests, cause_of, claim_of, comes_after, claim_taken}
 use Rattle.proposal.specs.Written.{term_said, invariant_said, kind_of, claim_said, rule_names, lines_before_end, lines_of}
 use Rattle.proposal.specs.declared.claims.Claim.{Claim}

@@ -1,6 +1,6 @@
 -- The limits and sorts that every proposal obeys with its protocol, in the words of the format. Nothing here speaks of
 -- reading.
-use Rattle.std.specs.Prelude.{◌≡◌, ℕ, ◌+◌, ◌<◌, ◌≤◌, ◌⊎◌, List, [], length, get_or, IfSome, slice_index_or}
+use Rattle.std.specs.Prelude.{◌≡◌, ℕ, ◌+◌, ◌<◌, ◌≤◌, ◌⊎◌, List, length, get_or, IfSome, slice_index_or}
 use Rattle.terms.specs.declared.Sort.TheVariants.{Formula}
 use Rattle.tables.specs.Lawful.{Names, LawfulTerms, IsOf, declared_by}
 use Rattle.tables.specs.Records.{TermsV}

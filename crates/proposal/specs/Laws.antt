@@ -1,6 +1,6 @@
 -- Writing and reading a proposal are each other's way back.
 use Rattle.std.specs.Prelude.{◌≡◌, ℕ, ◌≤◌, List, length, Ok}
-use Rattle.std.specs.List.{AllByRecursion as All}
+use Rattle.std.specs.List.{AllByRecursion}
 use Rattle.line.specs.declared.lines.File.TheVariants as file
 use Rattle.writing.specs.Said.{Said}
 use Rattle.writing.specs.Written.{written_line}
@@ -23,7 +23,7 @@ abbrev pub ShortLine : Said → Type 0
 ShortLine s = length (written_line file.Proposal s) ≤ 255
 
 pub record Fits (p : ProtocolV) (q : ProposalV) : Type 0 where
-  pub lines : All ShortLine (lines_of p q)
+  pub lines : AllByRecursion ShortLine (lines_of p q)
   pub bytes : length (written p q) ≤ 65536
 
 -- Every proposal can be kept: what is written from a proposal that obeys all limits and sorts is read as that proposal.

@@ -1,5 +1,5 @@
 -- Reading a proposal file with its protocol: what each line adds, in its turn, and the record that is left at the end.
-use Rattle.std.specs.Prelude.{ℕ, Bool, cond, List, [], map, length, Ok, Err, Result, ◌==◌}
+use Rattle.std.specs.Prelude.{ℕ, Bool, cond, List, map, length, Ok, Err, Result, ◌==◌}
 use Rattle.text.specs.Faults.{fault}
 use Rattle.text.specs.declared.faults.FileFault.{FileFault}
 use Rattle.text.specs.declared.faults.LineFault.{LineFault}

@@ -1,5 +1,5 @@
 -- A proposal as a record: what its file says, with names as bytes and everything else by number from 0.
-use Rattle.std.specs.Prelude.{ℕ, List, [], ◌++◌, drop}
+use Rattle.std.specs.Prelude.{ℕ, List, [], ◌++◌}
 use Rattle.tables.specs.Records.{TermsV, no_terms}
 use Rattle.proposal.specs.declared.claims.Claim.{Claim}
 

@@ -8,7 +8,7 @@ mod looking;
 mod naming;
 mod parts;
 mod reader;
-pub mod reading;
 pub mod record;
 mod taking;
 mod taking_claims;
+pub mod whole_file;

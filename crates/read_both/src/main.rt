@@ -3,11 +3,11 @@
 
 #![tactic(auto)]
 
-use layered::reading::read;
 use layered::record::Protocol;
+use layered::whole_file::read;
 use proposal::claims::Cause;
-use proposal::reading as proposal_reading;
 use proposal::record::Proposal;
+use proposal::whole_file as proposal_file;
 use reading::faults::ReadFault;
 use std::io::ErrorKind;
 use std::{fs, io};
@@ -120,7 +120,7 @@ fn read_proposal(rt: &HostRuntime, protocol: &Protocol) -> io::Result<()> {
     let bytes = text.len();
     println!(rt; "proposal.txt: {bytes} bytes")?;
     let mut proposal = Proposal::empty(rt.alloc());
-    match proposal_reading::read(rt.alloc(), protocol, &text, &mut proposal) {
+    match proposal_file::read(rt.alloc(), protocol, &text, &mut proposal) {
         Ok(()) => print_proposal(rt, &proposal),
         Err(fault) => print_fault(rt, fault),
     }

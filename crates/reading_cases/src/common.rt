@@ -1,6 +1,6 @@
 // What all cases share.
-use layered::reading::read;
 use layered::record::Protocol;
+use layered::whole_file::read;
 use reading::faults::ReadFault;
 use std::alloc::{AllocError, Global};
 

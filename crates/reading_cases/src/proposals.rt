@@ -1,9 +1,9 @@
 // Proposal files, read with their protocol.
 use crate::common::{Case, repeated, told};
-use layered::reading;
 use layered::record::Protocol;
-use proposal::reading::read;
+use layered::whole_file;
 use proposal::record::Proposal;
+use proposal::whole_file::read;
 use std::alloc::{AllocError, Global};
 use std::process::Abort;
 use std::test::Fail;
@@ -571,7 +571,7 @@ const LETTERS: &[u8] = b"abcdefghijklmnopqrstuvwxyzABCDEFGHIJKLMNOPQRSTUVWXYZ012
 
 fn protocol(rt: &impl Abort, heap: Global, bytes: &[u8]) -> Protocol {
     let mut protocol = Protocol::empty(heap);
-    assert!(rt; reading::read(heap, bytes, &mut protocol).is_ok());
+    assert!(rt; whole_file::read(heap, bytes, &mut protocol).is_ok());
     protocol
 }
 
@@ -719,7 +719,7 @@ fn parts_of_a_proposal(rt: HostRuntime) {
         b"proposal=p\nterm=not 2\ninv=i 4\ninv=j 2\ncause=r i 1\ncause=s i 3 j\ncause=r j 2\nend=proposal\n";
     let mut proposal = Proposal::empty(heap);
     assert!(rt; read(heap, &protocol, text, &mut proposal).is_ok());
-    assert_eq!(rt; proposal.name(), b"p");
+    assert_eq!(rt; proposal.name(), b"p".as_slice());
     assert_eq!(rt; proposal.terms().terms.len(), 1);
     assert_eq!(rt; proposal.invariants().len(), 2);
     assert!(rt; proposal.claims().len() == 3);

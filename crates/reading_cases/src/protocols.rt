@@ -1,7 +1,7 @@
 // Protocol files.
 use crate::common::{Case, protocol_refusal, repeated};
-use layered::reading::read;
 use layered::record::Protocol;
+use layered::whole_file::read;
 use std::alloc::{AllocError, Global};
 use std::process::Abort;
 use std::test::Fail;
@@ -649,8 +649,8 @@ fn parts_of_a_protocol(rt: HostRuntime) -> Result<(), Fail> {
         b"protocol=p\ntype=S a b\ntype=T c d e\nvar=x S\nvar=y T\nterm=true\ninit=0\nrule=r 0\nend=protocol\n";
     let mut protocol = Protocol::empty(heap);
     assert!(rt; read(heap, text, &mut protocol).is_ok());
-    assert_eq!(rt; protocol.name(), b"p");
-    assert_eq!(rt; protocol.types().sizes.as_slice(), &[2, 3]);
+    assert_eq!(rt; protocol.name(), b"p".as_slice());
+    assert_eq!(rt; protocol.types().sizes.as_slice(), [2, 3].as_slice());
     assert_eq!(rt; protocol.types().value_number(1, b"e"), Some(2));
     assert_eq!(rt; protocol.types().value_number(2, b"c"), None);
     assert_eq!(rt; protocol.variables().number(b"y"), Some(1));

@@ -1,6 +1,7 @@
 // Whether two tables of rules say the same.
 ghost use Rattle.std.specs.Prelude.{◌≡◌, map, Decides};
-ghost use Rattle.rules.specs.Views.{rule_seen, rules_seen};
+ghost use Rattle.rules.specs.Views.{rule_seen, rules_seen, rules_the_same, sets_the_same};
+ghost use Rattle.std.specs.Cmp.Lexicographic.{pointwise};
 ghost use Rattle.std.specs.Cmp.Rules.{comparing};
 ghost use Rattle.std.proofs.Common.{rules};
 
@@ -8,18 +9,22 @@ use crate::table::{Rule, RuleTable};
 use terms::Assignment;
 
 fn same_assignments(a: &[Assignment], b: &[Assignment]) -> bool
+    ensures pair_by_pair { result ≡ pointwise sets_the_same a.now b.now }
     ensures whether_they_are_the_same { Decides result (a.now ≡ b.now) }
 {
     a == b
 }
 
 // Two rules are equal if they say the same, and only then.
-impl PartialEq<Rule> for Rule {
-    ghost equals = { λ x y r. Decides r (rule_seen x ≡ rule_seen y) };
+impl PartialEq for Rule {
+    ghost eq = { rules_the_same };
 
-    ghost laws = { Prim.search (comparing, rules) };
+    ghost laws = { Prim.search (comparing, rules) depth 9 };
 
-    fn eq(&self, other: &Rule) -> bool {
+    fn eq(&self, other: &Rule) -> bool
+        ensures by_their_parts { result ≡ rules_the_same self.now other.now }
+        ensures whether_they_say_the_same { Decides result (rule_seen self.now ≡ rule_seen other.now) }
+    {
         self.name == other.name
             && self.guard == other.guard
             && same_assignments(self.sets.as_slice(), other.sets.as_slice())

@@ -183,12 +183,12 @@ fn run(rt: &HostRuntime) -> anyhow::Result<()> {
     let heap = rt.alloc();
     let mut protocol = Protocol::empty(heap);
     let text = fs::read(rt, "protocol.txt")?;
-    if layered::reading::read(heap, &text, &mut protocol).is_err() {
+    if layered::whole_file::read(heap, &text, &mut protocol).is_err() {
         return Err(anyhow!("the protocol is refused"));
     }
     let mut proposal = Proposal::empty(heap);
     let text = fs::read(rt, "proposal.txt")?;
-    if proposal::reading::read(heap, &protocol, &text, &mut proposal).is_err() {
+    if proposal::whole_file::read(heap, &protocol, &text, &mut proposal).is_err() {
         return Err(anyhow!("the proposal is refused"));
     }
     print_firings(rt, &protocol)?;

@@ -1,5 +1,5 @@
 -- A term that was read is written with the words it was read from, and a term that is written is read again.
-use Rattle.std.proofs.Common.{◌≡◌, ℕ, ◌<◌, ◌≤◌, Bool, true, false, cond, not, leb, List, [], ◌∷◌, ◌++◌, map, length, get_or, take, is_some, Some, None, Ok, Err, Option, Result, unwrap_or, sym, refl, ap, ◌∙◌, subst, arith}
+use Rattle.std.proofs.Common.{◌≡◌, ℕ, ◌<◌, ◌≤◌, true, false, cond, not, leb, List, [], ◌∷◌, ◌++◌, length, get_or, take, is_some, Some, None, Ok, Err, Option, Result, unwrap_or, sym, refl, ap, ◌∙◌, subst, arith}
 use Rattle.std.proofs.lemmas.List.{length-map, get_or-map, get_or_at, get_or-take, take_at, length-append, length-take-le}
 use Rattle.std.proofs.lemmas.Bool.{leb-false, lt-leb, cond-false, not-false, false≢true}
 use Rattle.names.specs.Names.{place_in}
@@ -10,7 +10,7 @@ use Rattle.terms.specs.declared.Sort.TheVariants.{Formula}
 use Rattle.terms.specs.declared.Term.{Term}
 use Rattle.terms.specs.declared.Term.TheVariants as term
 use Rattle.text.specs.declared.faults.LineFault.{LineFault}
-use Rattle.words.specs.Words.{WordV, is_name}
+use Rattle.words.specs.Words.{WordV}
 use Rattle.line.specs.Forms.{FormV}
 use Rattle.line.specs.Forms as form
 use Rattle.writing.proofs.Oks.{go_on}

@@ -1,5 +1,5 @@
 -- The limits and sorts that the tables obey, in the words of the format. Nothing here speaks of reading.
-use Rattle.std.specs.Prelude.{◌≡◌, ℕ, ◌*◌, ◌^◌, ◌<◌, ◌≤◌, Bool, true, List, [], ◌∷◌, map, length, take, Ok, slice_index, slice_index_or}
+use Rattle.std.specs.Prelude.{◌≡◌, ℕ, ◌*◌, ◌^◌, ◌<◌, ◌≤◌, true, List, [], ◌∷◌, map, length, take, Ok, slice_index, slice_index_or}
 use Rattle.terms.specs.Sorts.{Declared, sort, sort_of_number}
 use Rattle.terms.specs.declared.Sort.{Sort}
 use Rattle.terms.specs.declared.Sort.TheVariants.{Formula}

@@ -1,5 +1,5 @@
 -- A term by the names and numbers that it is written with.
-use Rattle.std.specs.Prelude.{List, [], slice_index_or}
+use Rattle.std.specs.Prelude.{[], slice_index_or}
 use Rattle.terms.specs.declared.Term.{Term}
 use Rattle.terms.specs.declared.Term.TheVariants as term
 use Rattle.writing.specs.Forms.{FormSaid, Var, Val, True, False, Eq, Not, And, Or, Imp, Ite}

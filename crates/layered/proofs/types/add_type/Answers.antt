@@ -27,7 +27,7 @@ invariant_of-types-2 c =
     let few : vec_len c.push_reserved.new.self ≤ 8 = omega (arith, c.requires.one_more_may_stand) in
     let sized : vec_len c.push_reserved-3.new.self ≡ vec_len c.push_reserved.new.self = omega (arith, was.all_sized) in
     let valued : vec_len c.push_reserved-2.new.self ≡ vec_len c.push_reserved.new.self = omega (arith, was.all_valued) in
-    (few, (sized, (valued, ((λ k. subst (λ lists. length (get_or lists k []) ≤ 16) (sym (values_more c)) (few_pushed (spellings was.values) (row c) was.few_values short k)), tt))))
+    record { few = few; all_sized = sized; all_valued = valued; few_values = (λ k. subst (λ lists. length (get_or lists k []) ≤ 16) (sym (values_more c)) (few_pushed (spellings was.values) (row c) was.few_values short k)) }
 
 pub returns : goal.returns
 returns c =

@@ -1,4 +1,4 @@
-use Rattle.std.proofs.Common.{map, sym, ap, ◌∙◌, rules}
+use Rattle.std.proofs.Common.{sym, ap, ◌∙◌}
 use mathlib.Core.List.{map-map}
 use Rattle.names.specs.Names.{place_in}
 use Rattle.rules.specs.Views.{rule_seen}

@@ -1,12 +1,12 @@
-use Rattle.std.proofs.Common.{◌≡◌, Bool, Decides, rules}
+use Rattle.std.proofs.Common.{◌≡◌, Decides, rules}
+use Rattle.std.proofs.lemmas.Slice.Eq.{slice_eq-Decides}
 use Rattle.terms.specs.declared.Term.{Term}
 use Rattle.terms.specs.contracts.TermPartialEq.TheImpl.{ghosts}
-use Rattle.tables.proofs.Matching.{listed_decides}
 use Rattle.tables.proofs.comparing.same_terms.Goals as goal
 
 -- The derived test decides whether two are the same.
-each : (x y : Term) (t : Bool) → ghosts.equals x y t → Decides t (x ≡ y)
-each x y t h = search rules
+each : (x y : Term) → Decides (ghosts.eq x y) (x ≡ y)
+each x y = search rules
 
 pub returns : goal.returns
-returns c = record { whether_they_are_the_same = listed_decides ghosts.equals _ _ _ c.eq.ensures each }
+returns c = record { whether_they_are_the_same = slice_eq-Decides each _ _ _ c.eq.ensures }

@@ -7,6 +7,6 @@ returns c =
     let types = c.in_ok-types.ensures.types_that_say_the_same in
     let variables = c.in_ok-variables.ensures.variables_that_say_the_same in
     let terms = c.in_ok-terms.ensures.terms_that_say_the_same in
-    let initial : vec_items c.in_ok-initial.initial ≡ vec_items c.args.self.now.initial = c.in_ok-initial.ensures.items-if-clones-equal (λ x y same. same) ∙ c.as_slice.ensures.value in
+    let initial : vec_items c.in_ok-initial.initial ≡ vec_items c.args.self.now.initial = c.in_ok-initial.ensures.items_if_clones_equal (λ x y same. same) ∙ c.as_slice.ensures.value in
     let rules = c.in_ok-rules.ensures.rules_that_say_the_same in
     record { parts_that_say_the_same = λ i. record { name = name i; types = types i; variables = variables i; terms = terms i; initial = initial i; rules = rules i } }

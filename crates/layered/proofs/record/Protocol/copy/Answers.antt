@@ -6,4 +6,4 @@ use Rattle.layered.proofs.record.Protocol.copy.Goals as goal
 -- what holds of the protocol holds of its copy
 pub invariant_of-result : goal.invariant_of-result
 invariant_of-result c =
-    (subst (λ (p : ProtocolV). ∥ Lawful p ⊎ (p ≡ empty) ∥₁) (sym c.in_ok-parts.ensures.parts_that_say_the_same) c.args.self.now.lawful_or_empty, tt)
+    record { lawful_or_empty = subst (λ (p : ProtocolV). ∥ Lawful p ⊎ (p ≡ empty) ∥₁) (sym c.in_ok-parts.ensures.parts_that_say_the_same) c.args.self.now.lawful_or_empty }

@@ -13,7 +13,7 @@ pub invariant_of-self : goal.invariant_of-self
 invariant_of-self c =
     let rows = c.args.self.now.rows in
     let room : length (invariants_seen c.args.self.now) < 64 = leb-false 64 (length (invariants_seen c.args.self.now)) (sym c.if-is_full.ensures.whether_no_more_may_stand) in
-    (omega (arith, room, length-map rows.items invariant_seen, rows.ok.0, c.push.ensures.upper-bound), tt)
+    record { few = omega (arith, room, length-map rows.items invariant_seen, rows.ok.0, c.push.ensures.upper_bound) }
 
 -- a formula and one row more are what the line adds
 added : (name : List ℕ) (formula line : ℕ) (r : Result ℕ LineFault) (rows after : List Invariant) (x : Invariant) → Ok formula ≡ r → length (map invariant_seen rows) < 64

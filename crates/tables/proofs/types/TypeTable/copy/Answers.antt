@@ -1,4 +1,4 @@
-use Rattle.std.proofs.Common.{◌≡◌, ℕ, ◌≤◌, List, [], map, length, get_or, vec_items, vec_len, sym, ap, ◌∙◌, subst, arith, rules}
+use Rattle.std.proofs.Common.{◌≡◌, ◌≤◌, [], map, length, get_or, vec_items, vec_len, sym, ap, ◌∙◌, subst, arith, rules}
 use Rattle.names.specs.Names.{spelled}
 use Rattle.tables.specs.Spellings.{spellings}
 use Rattle.tables.proofs.Copies.{as_long}
@@ -17,4 +17,4 @@ invariant_of-result c =
     let few : vec_len names ≤ 8 = omega (arith, names.ok.0, was.names.ok.0, was.few) in
     let sized : vec_len c.in_ok-sizes.sizes ≡ vec_len names = omega (arith, names.ok.0, was.names.ok.0, c.in_ok-sizes.sizes.ok.0, was.sizes.ok.0, was.all_sized) in
     let valued : vec_len values ≡ vec_len names = omega (arith, names.ok.0, was.names.ok.0, values.ok.0, was.values.ok.0, was.all_valued) in
-    (few, (sized, (valued, ((λ k. subst (λ lists. length (get_or lists k []) ≤ 16) (sym same) (was.few_values k)), tt))))
+    record { few = few; all_sized = sized; all_valued = valued; few_values = (λ k. subst (λ lists. length (get_or lists k []) ≤ 16) (sym same) (was.few_values k)) }

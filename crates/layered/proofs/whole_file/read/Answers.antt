@@ -3,7 +3,7 @@ use Rattle.layered.specs.Answers.{protocol_seen}
 use Rattle.layered.proofs.LawKept.{every_protocol_can_be_kept}
 use Rattle.layered.proofs.LawWhole.{lawful_read}
 use Rattle.layered.proofs.LawWritten.{written_read}
-use Rattle.layered.proofs.reading.read.Goals as goal
+use Rattle.layered.proofs.whole_file.read.Goals as goal
 
 pub returns : goal.returns
 returns c =

@@ -1,7 +1,7 @@
 use Rattle.std.proofs.Common.{rules}
 use Rattle.proposal.proofs.Again.{proposal_kept}
 use Rattle.proposal.proofs.ReadBack.{proposal_written}
-use Rattle.proposal.proofs.reading.read.Goals as goal
+use Rattle.proposal.proofs.whole_file.read.Goals as goal
 
 pub returns-in_err-into : goal.returns-in_err-into
 returns-in_err-into c = record {

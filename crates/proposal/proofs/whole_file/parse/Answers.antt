@@ -1,4 +1,4 @@
-use Rattle.std.proofs.Common.{◌≡◌, ℕ, ◌⊎◌, List, Ok, sym, ap, ◌∙◌, subst, inl, ⊎_elim}
+use Rattle.std.proofs.Common.{◌≡◌, ◌⊎◌, Ok, sym, ap, ◌∙◌, subst, inl, ⊎_elim}
 use mathlib.Core.Logic.{∥∥₁_map, ∥∥₁_elim}
 use mathlib.Core.List.{is_set}
 use native.Mathlib.Nat.{ℕ_set}
@@ -12,14 +12,13 @@ use Rattle.layered.specs.Records.{ProtocolV}
 use Rattle.layered.specs.Records as protocol
 use Rattle.proposal.specs.Drafts.{draft_seen}
 use Rattle.proposal.specs.Lawful.{LawfulWith}
-use Rattle.proposal.specs.Reading.{Draft, begun, taken, ended, finished, proposal_of}
-use Rattle.proposal.specs.Records.{ProposalV}
+use Rattle.proposal.specs.Reading.{Draft, begun, taken, ended, finished}
 use Rattle.proposal.specs.Views.{parts_seen}
 use Rattle.proposal.specs.Written.{written}
 use Rattle.proposal.proofs.Kept.{lawful_read, protocol_read}
 use Rattle.proposal.proofs.ReadBack.{left_written}
-use Rattle.proposal.proofs.reading.parse.Goals as goal
-use Rattle.proposal.proofs.reading.parse.Goals.{In_ok-parts}
+use Rattle.proposal.proofs.whole_file.parse.Goals as goal
+use Rattle.proposal.proofs.whole_file.parse.Goals.{In_ok-parts}
 
 -- the terms of every protocol are lawful
 lawful_terms : (p : ProtocolV) → Lawful p ⊎ (p ≡ protocol.empty) → LawfulTerms (declared_by p.types p.variables) p.terms
@@ -58,7 +57,7 @@ written_again c =
 
 pub invariant_of-result : goal.invariant_of-result
 invariant_of-result c =
-    (∥∥₁_map (lawful c) (λ law. inl (protocol_seen c.args.protocol.now, law)), tt)
+    record { lawful_or_empty = ∥∥₁_map (lawful c) (λ law. inl (protocol_seen c.args.protocol.now, law)) }
 
 pub returns : goal.returns
 returns c =

@@ -4,7 +4,7 @@ use Rattle.layered.specs.Reading.{begun, ended, taken}
 use Rattle.layered.specs.Records.{ProtocolV}
 use Rattle.layered.specs.Views.{draft_seen}
 use Rattle.layered.proofs.LawWhole.{lawful_whole}
-use Rattle.layered.proofs.reading.parse.Goals as goal
+use Rattle.layered.proofs.whole_file.parse.Goals as goal
 
 pub invariant_of-result : goal.invariant_of-result
 invariant_of-result c =
@@ -13,4 +13,4 @@ invariant_of-result c =
     let said : read_through (λ draft number line. taken draft line) ended begun text ≡ Ok after =
     subst (λ (made : ProtocolV). read_through (λ draft number line. taken draft line) ended (record { row = 0; made = made }) text ≡ Ok after)
     c.empty.ensures.the_empty_protocol c.in_ok-read_file.ensures.all_its_lines_or_its_first_fault in
-    (∣ inl (lawful_whole text after said) ∣₁, tt)
+    record { lawful_or_empty = ∣ inl (lawful_whole text after said) ∣₁ }
