@@ -3,7 +3,7 @@
 #![tactic(auto)]
 
 ghost use Rattle.std.specs.Prelude.{◌≡◌, ℕ, ◌+◌, ◌^◌, ◌<◌, ◌≤◌, ◌&&◌, length, None, OnErr, ◌==◌, slice_index};
-ghost use Rattle.account.specs.Accounts.{nothing, counted, taken, answered, outcome, gone_through, account as the-account, Whole, SameLines, Small};
+ghost use Rattle.account.specs.Accounts.{nothing, counted, taken, answered, outcome, gone_through, account as the_account, Whole, SameLines, Small};
 ghost use Rattle.keys.specs.Keys.{key_number};
 
 use keys::Key;
@@ -100,7 +100,7 @@ fn walk(file: File, bytes: &[u8], tally: &mut Tally) -> Result<(), Placed>
 
 // The account of a file.
 pub fn survey(file: File, bytes: &[u8]) -> Account
-    ensures the_account_of_the_file { result ≡ the-account file bytes.now }
+    ensures the_account_of_the_file { result ≡ the_account file bytes.now }
     ensures read_to_its_end_it_is_its_lines_all_counted { result.fault ≡ None → Whole bytes.now result.tally }
     ensures cut_one_by_one_it_has_the_same_lines { SameLines bytes.now }
 {

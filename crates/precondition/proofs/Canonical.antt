@@ -3,7 +3,7 @@ use Rattle.std.proofs.Common.{◌≡◌, ℕ, ◌<◌, ◌≤◌, List, [], ◌�
 use Rattle.std.proofs.ByRecursion.{All-weaker}
 use Rattle.std.proofs.lemmas.List.{length-map, length-append, length_push, get_or-map, get_or_append_left, get_or_push, map_push, ext_get_or}
 use Rattle.std.proofs.lemmas.Bool.{cases_lt}
-use Rattle.std.specs.List.{AllByRecursion as All}
+use Rattle.std.specs.List.{AllByRecursion}
 use Rattle.semantics.specs.Trees.{Tree}
 use Rattle.semantics.specs.Trees as tree
 use Rattle.terms.specs.Trees.{tree_at, tree_of}
@@ -41,7 +41,7 @@ lower ts (tree.Ite f a b) = Ite (place ts f) (place ts a) (place ts b)
 
 -- each part of the tree is among the trees
 abbrev pub Known : List Tree → Tree → Type 0
-Known ts t = All (λ part. place ts part < length ts) (parts_of t)
+Known ts t = AllByRecursion (λ part. place ts part < length ts) (parts_of t)
 
 -- the term stands for the tree
 pub rebuilt : (ts : List Tree) (t : Tree) → Known ts t → tree_of ts (lower ts t) ≡ t

@@ -3,7 +3,7 @@ use Rattle.std.proofs.Common.{◌≡◌, ℕ, zero, suc, ◌+◌, ◌<◌, ◌�
 use Rattle.std.proofs.ByRecursion.{All-weaker}
 use Rattle.std.proofs.lemmas.List.{length-map, length-take-le, get_or-map, get_or-take, map_push, ext_get_or, drop_more}
 use Rattle.std.proofs.lemmas.Bool.{and_parts, and_from, ltb-true}
-use Rattle.std.specs.List.{AllByRecursion as All}
+use Rattle.std.specs.List.{AllByRecursion}
 use Rattle.semantics.specs.Trees.{Tree}
 use Rattle.semantics.specs.Trees as tree
 use Rattle.terms.proofs.Tables.{tree_there, trees_length, trees_more}
@@ -17,7 +17,7 @@ use Rattle.precondition.proofs.Canonical.{Known, Canonical, lower, map_same, can
 use Rattle.precondition.proofs.Placing.{place_first, place_append, place_push}
 
 -- the same arguments make the same tree
-pub tree_same : (xs ys : List Tree) (t : Term) → All (λ a. tree_at xs a ≡ tree_at ys a) (arguments t) → tree_of xs t ≡ tree_of ys t
+pub tree_same : (xs ys : List Tree) (t : Term) → AllByRecursion (λ a. tree_at xs a ≡ tree_at ys a) (arguments t) → tree_of xs t ≡ tree_of ys t
 tree_same xs ys (Var v) same = refl
 tree_same xs ys (Val of k) same = refl
 tree_same xs ys True same = refl
@@ -30,7 +30,7 @@ tree_same xs ys (Imp a b) same = ap₂ tree.Imp same.0 same.1.0
 tree_same xs ys (Ite f a b) same = λ i. tree.Ite (same.0 i) (same.1.0 i) (same.1.1.0 i)
 
 -- a term that names its arguments by the places of their trees
-pub lower_term : (to : ℕ → ℕ) (ts us : List Tree) (t : Term) → All (λ a. to a ≡ place ts (tree_at us a)) (arguments t) → renamed to t ≡ lower ts (tree_of us t)
+pub lower_term : (to : ℕ → ℕ) (ts us : List Tree) (t : Term) → AllByRecursion (λ a. to a ≡ place ts (tree_at us a)) (arguments t) → renamed to t ≡ lower ts (tree_of us t)
 lower_term to ts us (Var v) same = refl
 lower_term to ts us (Val of k) same = refl
 lower_term to ts us True same = refl
@@ -43,7 +43,7 @@ lower_term to ts us (Imp a b) same = ap₂ Imp same.0 same.1.0
 lower_term to ts us (Ite f a b) same = λ i. Ite (same.0 i) (same.1.0 i) (same.1.1.0 i)
 
 -- the parts of a term's tree are the trees of its arguments
-pub known_term : (ts us : List Tree) (t : Term) → All (λ a. place ts (tree_at us a) < length ts) (arguments t) → Known ts (tree_of us t)
+pub known_term : (ts us : List Tree) (t : Term) → AllByRecursion (λ a. place ts (tree_at us a) < length ts) (arguments t) → Known ts (tree_of us t)
 known_term ts us (Var v) there = tt
 known_term ts us (Val of k) there = tt
 known_term ts us True there = tt
@@ -55,11 +55,11 @@ known_term ts us (Or a b) there = there
 known_term ts us (Imp a b) there = there
 known_term ts us (Ite f a b) there = there
 
-below_all : (n : ℕ) (numbers : List ℕ) → all_below n numbers ≡ true → All (λ a. a < n) numbers
+below_all : (n : ℕ) (numbers : List ℕ) → all_below n numbers ≡ true → AllByRecursion (λ a. a < n) numbers
 below_all n [] is = tt
 below_all n (a ∷ rest) is = let both = and_parts _ _ is in (ltb-true a n both.0, below_all n rest both.1)
 
-pub earlier_from : (n : ℕ) (terms : List Term) (k : ℕ) → formed_from n terms ≡ true → k < length terms → All (λ a. a < n + k) (arguments (term_at terms k))
+pub earlier_from : (n : ℕ) (terms : List Term) (k : ℕ) → formed_from n terms ≡ true → k < length terms → AllByRecursion (λ a. a < n + k) (arguments (term_at terms k))
 earlier_from n [] k is inside = absurd (omega arith)
 earlier_from n (t ∷ terms) zero is inside =
     All-weaker (λ a. a < n) (λ a. a < n + 0) (λ a less. omega arith) (arguments t) (below_all n (arguments t) (and_parts _ _ is).0)
@@ -68,7 +68,7 @@ earlier_from n (t ∷ terms) (suc k) is inside =
     (earlier_from (suc n) terms k (and_parts _ _ is).1 (omega arith))
 
 -- each argument is the number of an earlier term
-pub earlier : (terms : List Term) (k : ℕ) → formed terms ≡ true → k < length terms → All (λ a. a < k) (arguments (term_at terms k))
+pub earlier : (terms : List Term) (k : ℕ) → formed terms ≡ true → k < length terms → AllByRecursion (λ a. a < k) (arguments (term_at terms k))
 earlier terms k is inside =
     All-weaker (λ a. a < 0 + k) (λ a. a < k) (λ a less. omega arith) (arguments (term_at terms k)) (earlier_from 0 terms k is inside)
 
@@ -137,7 +137,7 @@ module _ (terms : List Term) (i : ℕ) (is : formed terms ≡ true) (inside : i 
   many : length before ≡ i
   many = trees_length front ∙ length-take-le i terms (omega arith)
 
-  args : All (λ a. a < i) (arguments (term_at terms i))
+  args : AllByRecursion (λ a. a < i) (arguments (term_at terms i))
   args = earlier terms i is inside
 
   pub next_lower : renamed (λ a. get_or (lowest front) a 0) (term_at terms i) ≡ lower before here

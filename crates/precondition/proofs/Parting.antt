@@ -3,7 +3,7 @@ use Rattle.std.proofs.Common.{◌≡◌, ℕ, suc, ◌+◌, ◌<◌, ◌≤◌, 
 use Rattle.std.proofs.ByRecursion.{all-has, All-weaker, all_has_itself}
 use Rattle.std.proofs.lemmas.List.{get_or-set_other, get_or-replicate, get_or_past, length-replicate}
 use Rattle.std.proofs.lemmas.Bool.{both_ways, cases_eq, cases_lt, cond_both}
-use Rattle.std.specs.List.{ContainsAt as Has, AllByRecursion as All}
+use Rattle.std.specs.List.{ContainsAt, AllByRecursion}
 use Rattle.terms.specs.declared.Term.{Term}
 use Rattle.precondition.specs.Laws.{SameLaw, PlaceLaw, PartsLaw, PartOf, itself, argument}
 use Rattle.precondition.specs.Parts.{with_marks, passed_on, marked_from, up_to, parts}
@@ -38,7 +38,7 @@ module _ (terms : List Term) (formula : ℕ) where
       (λ other. only k (sym (get_or-set_other marks n k true false other) ∙ is))
       (cases_eq k n)
 
-  only_with : (numbers : List ℕ) (marks : List Bool) → Only marks → All (PartOf terms formula) numbers → Only (with_marks marks numbers)
+  only_with : (numbers : List ℕ) (marks : List Bool) → Only marks → AllByRecursion (PartOf terms formula) numbers → Only (with_marks marks numbers)
   only_with [] marks only parted = only
   only_with (n ∷ rest) marks only parted = only_with rest (set marks n true) (only_set marks n only parted.0) parted.1
 
@@ -47,7 +47,7 @@ module _ (terms : List Term) (formula : ℕ) where
       cond_both (get_or marks n false) (with_marks marks (arguments t)) marks Only
       (λ here.
       only_with (arguments t) marks only
-      (All-weaker (Has (arguments t)) (PartOf terms formula) (λ a has. argument (only n here) (subst (λ x. Has (arguments x) a) is has)) (arguments t) (all_has_itself (arguments t))))
+      (All-weaker (ContainsAt (arguments t)) (PartOf terms formula) (λ a has. argument (only n here) (subst (λ x. ContainsAt (arguments x) a) is has)) (arguments t) (all_has_itself (arguments t))))
       (λ _. only)
 
   only_from : (n : ℕ) (rest : List Term) (marks : List Bool) → ((k : ℕ) → k < length rest → term_at rest k ≡ term_at terms (n + k)) → Only marks → Only (marked_from n rest marks)

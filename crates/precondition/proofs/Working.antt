@@ -4,7 +4,7 @@ use Rattle.std.proofs.ByRecursion.{All-weaker}
 use Rattle.std.proofs.lemmas.List.{append-nil, append_assoc, length-append, length_push, take-append-drop, get_or_append_left, get_or_push}
 use Rattle.std.proofs.lemmas.Bool.{cases_lt, cond_both, and_parts, ltb-true, ltb-false, both_ways}
 use Rattle.std.specs.Option.{option_map}
-use Rattle.std.specs.List.{AllByRecursion as All}
+use Rattle.std.specs.List.{AllByRecursion}
 use Rattle.semantics.specs.Firing as firing
 use Rattle.semantics.specs.Trees.{Tree}
 use Rattle.semantics.specs.Trees as tree
@@ -26,7 +26,7 @@ use Rattle.precondition.proofs.Marking.{Marked}
 use Rattle.precondition.proofs.Placing.{place_within, place_there, place_append, place_push}
 
 -- what follows of each from two facts of each
-all_both : {X : Type 0} (P Q R : X → Type 0) → ((x : X) → P x → Q x → R x) → (xs : List X) → All P xs → All Q xs → All R xs
+all_both : {X : Type 0} (P Q R : X → Type 0) → ((x : X) → P x → Q x → R x) → (xs : List X) → AllByRecursion P xs → AllByRecursion Q xs → AllByRecursion R xs
 all_both P Q R step [] ps qs = tt
 all_both P Q R step (x ∷ xs) ps qs = (step x ps.0 qs.0, all_both P Q R step xs ps.1 qs.1)
 
@@ -124,7 +124,7 @@ module _ (terms : List Term) (sets : List Assignment) (marks : List Bool) where
         placed = λ k inside here. absurd (omega arith);
       }
 
-  module _ (is : formed terms ≡ true) (there : all_there (length terms) sets ≡ true) (w : Work) (good : Good terms sets marks w) (inside : length w.results < length terms) (closed : All (Marked marks) (arguments (term_at terms (length w.results)))) where
+  module _ (is : formed terms ≡ true) (there : all_there (length terms) sets ≡ true) (w : Work) (good : Good terms sets marks w) (inside : length w.results < length terms) (closed : AllByRecursion (Marked marks) (arguments (term_at terms (length w.results)))) where
     abbrev n : ℕ
     n = length w.results
 
@@ -163,7 +163,7 @@ module _ (terms : List Term) (sets : List Assignment) (marks : List Bool) where
     abbrev Arg : ℕ → Type 0
     Arg a = (get_or w.results a 0 ≡ place ts (tree_at us a)) × (place ts (tree_at us a) < length ts)
 
-    args : All Arg (arguments term)
+    args : AllByRecursion Arg (arguments term)
     args =
         all_both (λ a. a < n) (Marked marks) Arg
         (λ a less marked.

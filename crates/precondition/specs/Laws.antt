@@ -1,6 +1,6 @@
 -- The laws. Each is proved: none adds to what a reader must believe.
 use Rattle.std.specs.Prelude.{◌≡◌, ℕ, ◌<◌, ◌≤◌, true, false, ◌↔◌, List, length, ◌≢◌, slice_index_or}
-use Rattle.std.specs.List.{ContainsAt as Has}
+use Rattle.std.specs.List.{ContainsAt}
 use Rattle.semantics.specs.Trees.{Tree}
 use Rattle.terms.specs.Trees.{tree_at}
 use Rattle.terms.specs.declared.Term.{Term}
@@ -26,7 +26,7 @@ PlaceLaw = (trees : List Tree) (t : Tree) → IsLowest trees t (place trees t)
 -- What a formula is made of: itself, and each argument of what it is made of. (`Has` says that a list has an element.)
 pub data PartOf (terms : List Term) (formula : ℕ) : ℕ → Type 0 where
   itself : PartOf terms formula formula
-  argument : {k a : ℕ} → PartOf terms formula k → Has (arguments (term_at terms k)) a → PartOf terms formula a
+  argument : {k a : ℕ} → PartOf terms formula k → ContainsAt (arguments (term_at terms k)) a → PartOf terms formula a
 
 -- In a table that is not refused, just these are marked.
 abbrev pub PartsLaw : Type 0

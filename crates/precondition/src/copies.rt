@@ -1,6 +1,6 @@
 // A table with the lowest copy of each of its terms.
 ghost use Rattle.std.specs.Prelude.{◌≡◌, ◌≤◌, true, length};
-ghost use Rattle.precondition.specs.Tables.{formed, lowest as lowest-of, named as named-of};
+ghost use Rattle.precondition.specs.Tables.{formed, lowest as lowest_of, named as named_of};
 
 use terms::Term;
 
@@ -13,6 +13,6 @@ pub struct Copies<'a> {
     pub(crate) named: Vec<Term>,
     ghost few: { length terms.now ≤ 512 },
     ghost well_formed: { formed terms.now ≡ true },
-    ghost right: { lowest.items ≡ lowest-of terms.now },
-    ghost rightly_named: { named.items ≡ named-of terms.now },
+    ghost right: { lowest.items ≡ lowest_of terms.now },
+    ghost rightly_named: { named.items ≡ named_of terms.now },
 }

@@ -2,7 +2,7 @@
 ghost use Rattle.std.specs.Prelude.{◌≡◌, ℕ, ◌<◌, ◌≤◌, true, ◌&&◌, ◌++◌, length, IfOk, nat_lt};
 ghost use Rattle.precondition.specs.Parts.{parts, up_to};
 ghost use Rattle.precondition.specs.Steps.{Numbered, Went, replaced_by, work_seen};
-ghost use Rattle.precondition.specs.Tables.{lowest as lowest-of, named as named-of};
+ghost use Rattle.precondition.specs.Tables.{lowest as lowest_of, named as named_of};
 ghost use Rattle.precondition.specs.Writing.{Came, IsPrecondition, all_taken, all_there, answer, answer_seen, begun, noted, written};
 
 use crate::answers::{Draft, Precondition};
@@ -26,7 +26,7 @@ fn number_of(
     term: Term,
 ) -> u16
     requires few_new { length scratch.now ≤ 512 }
-    ensures the_lowest_number { Numbered (lowest-of copies.now.terms.now) (named-of copies.now.terms.now ++ scratch.now) results.now term (replaced_by sets.now term) result }
+    ensures the_lowest_number { Numbered (lowest_of copies.now.terms.now) (named_of copies.now.terms.now ++ scratch.now) results.now term (replaced_by sets.now term) result }
 {
     match replacement(sets, term) {
         Some(n) => at_or(copies.lowest.as_slice(), n, 0),
@@ -58,7 +58,7 @@ fn take(
     term: Term,
 ) -> Result<(), Fault>
     requires few_new { length (work_seen draft.old).scratch ≤ 512 }
-    ensures the_draft_with_its_lowest_number { (n : ℕ) × Numbered (lowest-of copies.now.terms.now) (named-of copies.now.terms.now ++ (work_seen draft.old).scratch) (work_seen draft.old).results term (replaced_by sets.now term) n × Went result (work_seen draft.new) (noted (length copies.now.terms.now) (work_seen draft.old) term n) }
+    ensures the_draft_with_its_lowest_number { (n : ℕ) × Numbered (lowest_of copies.now.terms.now) (named_of copies.now.terms.now ++ (work_seen draft.old).scratch) (work_seen draft.old).results term (replaced_by sets.now term) n × Went result (work_seen draft.new) (noted (length copies.now.terms.now) (work_seen draft.old) term n) }
 {
     let number = number_of(
         copies,

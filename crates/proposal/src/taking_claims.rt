@@ -7,7 +7,7 @@ ghost use Rattle.tables.specs.Taking.{unless};
 ghost use Rattle.words.specs.Words.{word_seen};
 ghost use Rattle.text.specs.Faults.{fault};
 ghost use Rattle.text.specs.declared.faults.Wrong.TheVariants.{Unknown};
-ghost use Rattle.proposal.specs.Taking.{invariant_names, kind_tests, cause_of, claim_of, before as Before-of, comes_after, claim_taken};
+ghost use Rattle.proposal.specs.Taking.{invariant_names, kind_tests, cause_of, claim_of, before as before_of, comes_after, claim_taken};
 ghost use Rattle.proposal.specs.Views.{invariants_seen};
 
 use crate::claims::{Cause, Claim};
@@ -75,7 +75,7 @@ fn claim_named(
 
 // Whether a claim stands before another, by invariant and then by rule.
 fn is_before(a: Claim, b: Claim) -> bool
-    ensures by_invariant_then_by_rule { result ≡ Before-of a b }
+    ensures by_invariant_then_by_rule { result ≡ before_of a b }
 {
     a.invariant < b.invariant || (a.invariant == b.invariant && a.rule < b.rule)
 }

@@ -2,7 +2,7 @@
 use Rattle.std.proofs.Common.{◌≡◌, ℕ, ◌+◌, ◌≤◌, eqb, List, [], ◌∷◌, ◌++◌, map, length, IfSome, Some, sym, ap, ◌∙◌, subst, arith}
 use Rattle.std.proofs.lemmas.List.{map_push, append_assoc}
 use Rattle.std.proofs.lemmas.Bool.{cond_both}
-use Rattle.std.specs.List.{AllByRecursion as All}
+use Rattle.std.specs.List.{AllByRecursion}
 use Rattle.words.specs.Repeats.{start, repeat_in, seen_before}
 use Rattle.words.specs.Words.{WordV, words, words_left, lengthened}
 
@@ -11,7 +11,7 @@ abbrev Inside : ℕ → ℕ → Type 0
 Inside most column = (1 ≤ column) × (column ≤ most)
 
 abbrev AllInside : ℕ → List WordV → Type 0
-AllInside most ws = All (λ w. Inside most w.column) ws
+AllInside most ws = AllByRecursion (λ w. Inside most w.column) ws
 
 inside_lengthened : (most b c : ℕ) (ws : List WordV) → Inside most c → AllInside most ws → AllInside most (lengthened b c ws)
 inside_lengthened most b c [] here behind = (here, tt)

@@ -3,7 +3,7 @@ ghost use Rattle.std.specs.Prelude.{◌≡◌, ◌<◌, ◌≤◌, false, map, l
 ghost use Rattle.names.specs.Names.{spelled, place_in};
 ghost use Rattle.terms.specs.Sorts.{missing_term, sort_of_number, sort_is_value, differ};
 ghost use Rattle.terms.specs.declared.Sort.TheVariants.{Value};
-ghost use Rattle.text.specs.Faults.{fault as fault-of};
+ghost use Rattle.text.specs.Faults.{fault as fault_of};
 ghost use Rattle.words.specs.Words.{word_seen};
 ghost use Rattle.protocol.specs.Limits.{VariablesFit};
 ghost use Rattle.protocol.specs.Taking.{unless, is_set, last_rule, rule_taken, assignment_taken};
@@ -28,7 +28,7 @@ impl Named for Rule {
 }
 
 fn wrong_at(wrong: Wrong, column: usize) -> LineFault
-    ensures a_fault_of_this_kind_at_this_column { result ≡ fault-of wrong column }
+    ensures a_fault_of_this_kind_at_this_column { result ≡ fault_of wrong column }
 {
     LineFault { wrong, column }
 }

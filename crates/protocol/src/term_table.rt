@@ -3,7 +3,7 @@ ghost use Rattle.std.specs.Prelude.{◌≡◌, [], slice_index};
 ghost use Rattle.line.specs.Forms.{form_seen};
 ghost use Rattle.terms.specs.Sorts.{declared, sort};
 ghost use Rattle.words.specs.Words.{word_seen};
-ghost use Rattle.line.specs.Forms.{Val as val-form, Var as var-form};
+ghost use Rattle.line.specs.Forms.{Val as val_form, Var as var_form};
 ghost use Rattle.protocol.specs.Limits.{TypesFit, VariablesFit};
 ghost use Rattle.protocol.specs.Taking.{no_types, no_variables, named_term, columns, at_argument, new_term, term_taken};
 ghost use Rattle.protocol.specs.Views.{types_seen, variables_seen, terms_seen, Came};
@@ -21,7 +21,7 @@ const MOST_TERMS: usize = 512;
 
 fn value_term(types: &TypeTable, of: Word<'_>, value: Word<'_>) -> Result<Term, LineFault>
     requires the_types_fit { TypesFit (types_seen types.now) }
-    ensures the_value_by_numbers_or_the_unknown_name { result ≡ named_term (types_seen types.now) no_variables (val-form (word_seen of.entry) (word_seen value.entry)) }
+    ensures the_value_by_numbers_or_the_unknown_name { result ≡ named_term (types_seen types.now) no_variables (val_form (word_seen of.entry) (word_seen value.entry)) }
 {
     let Some(kind) = number_in(&types.names, of.bytes) else {
         return Err(LineFault {
@@ -40,7 +40,7 @@ fn value_term(types: &TypeTable, of: Word<'_>, value: Word<'_>) -> Result<Term, 
 
 fn variable_term(variables: &VariableTable, name: Word<'_>) -> Result<Term, LineFault>
     requires the_variables_fit { VariablesFit (variables_seen variables.now) }
-    ensures the_variable_by_number_or_the_unknown_name { result ≡ named_term no_types (variables_seen variables.now) (var-form (word_seen name.entry)) }
+    ensures the_variable_by_number_or_the_unknown_name { result ≡ named_term no_types (variables_seen variables.now) (var_form (word_seen name.entry)) }
 {
     match number_in(&variables.names, name.bytes) {
         Some(number) => Ok(Term::Var(number)),

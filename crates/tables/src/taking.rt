@@ -3,7 +3,7 @@ ghost use Rattle.std.specs.Prelude.{◌≡◌, slice_index};
 ghost use Rattle.line.specs.Forms.{form_seen};
 ghost use Rattle.terms.specs.Sorts.{declared, sort};
 ghost use Rattle.words.specs.Words.{word_seen};
-ghost use Rattle.line.specs.Forms.{Val as val-form, Var as var-form};
+ghost use Rattle.line.specs.Forms.{Val as val_form, Var as var_form};
 ghost use Rattle.tables.specs.Records.{no_types, no_variables};
 ghost use Rattle.tables.specs.Taking.{named_term, columns, at_argument, new_term, term_taken};
 ghost use Rattle.tables.specs.Views.{types_seen, variables_seen, terms_seen};
@@ -22,7 +22,7 @@ use words::Word;
 const MOST_TERMS: usize = 512;
 
 fn value_term(types: &TypeTable, of: Word<'_>, value: Word<'_>) -> Result<Term, LineFault>
-    ensures the_value_by_numbers_or_the_unknown_name { result ≡ named_term (types_seen types.now) no_variables (val-form (word_seen of.entry) (word_seen value.entry)) }
+    ensures the_value_by_numbers_or_the_unknown_name { result ≡ named_term (types_seen types.now) no_variables (val_form (word_seen of.entry) (word_seen value.entry)) }
 {
     let Some(kind) = types.number(of.bytes) else {
         return Err(LineFault {
@@ -40,7 +40,7 @@ fn value_term(types: &TypeTable, of: Word<'_>, value: Word<'_>) -> Result<Term, 
 }
 
 fn variable_term(variables: &VariableTable, name: Word<'_>) -> Result<Term, LineFault>
-    ensures the_variable_by_number_or_the_unknown_name { result ≡ named_term no_types (variables_seen variables.now) (var-form (word_seen name.entry)) }
+    ensures the_variable_by_number_or_the_unknown_name { result ≡ named_term no_types (variables_seen variables.now) (var_form (word_seen name.entry)) }
 {
     match variables.number(name.bytes) {
         Some(number) => Ok(Term::Var(number)),

@@ -9,7 +9,7 @@ pub mod values;
 
 ghost use Rattle.std.specs.Prelude.{◌≡◌, false, []};
 ghost use Rattle.terms.specs.Laws.{PrefixLaw, SortsLaw};
-ghost use Rattle.terms.specs.Sorts.{number as number_of, argument as argument-of, declared, undeclared, missing_term, sort_of_number, sort_is_formula, sort_is_value, differ, sort};
+ghost use Rattle.terms.specs.Sorts.{number as number_of, argument as argument_of, declared, undeclared, missing_term, sort_of_number, sort_is_formula, sort_is_value, differ, sort};
 
 // A term. Its numbers are those of a variable, of a type and one of its values, or of earlier terms.
 #[derive(Clone, Copy, Debug, PartialEq, Eq)]
@@ -68,7 +68,7 @@ impl TermFault {
 
     // The argument at fault.
     pub fn argument(self) -> u8
-        ensures the_argument_at_fault { result ≡ argument-of self }
+        ensures the_argument_at_fault { result ≡ argument_of self }
     {
         match self {
             TermFault::NoSuch(argument) => argument,

@@ -3,7 +3,7 @@ use Rattle.std.proofs.Common.{◌≡◌, ℕ, suc, ◌+◌, ◌<◌, ◌≤◌, 
 use Rattle.std.proofs.ByRecursion.{all-has}
 use Rattle.std.proofs.lemmas.Slice.Eq.{bytes_eq-Decides}
 use Rattle.std.proofs.lemmas.Bool.{lt-ltb, le-ltb, ltb-true, ltb-false, cond-true, cond-false, cases_Bool, cases_order, and_from, both_ways, or_parts, or_left}
-use Rattle.std.specs.List.{ContainsAt as Has, AllByRecursion as All}
+use Rattle.std.specs.List.{ContainsAt, AllByRecursion}
 use Rattle.std.specs.Str.{bytes_eq}
 use Rattle.words.specs.Repeats.{start, seen_before, repeat_in, AllDiffer}
 use Rattle.words.specs.Words.{WordV, Place, word, word_at, next, over, words, words_left, lengthened}
@@ -72,7 +72,7 @@ pub few : (text : List ℕ) → length (words_left (start text)) ≤ length text
 few text = simp (cond-false (ltb (length text) 0) [] (words 1 text) (le-ltb (length text) 0 (omega arith))) (length_words 1 text)
 
 -- of the words `ws`, none stands further left among `all`
-unrepeated : (all ws : List WordV) → repeat_in all ws ≡ None → All (λ w. seen_before all w.column w.bytes ≡ false) ws
+unrepeated : (all ws : List WordV) → repeat_in all ws ≡ None → AllByRecursion (λ w. seen_before all w.column w.bytes ≡ false) ws
 unrepeated all [] none = tt
 unrepeated all (w ∷ ws) none =
     ⊎_elim
@@ -80,7 +80,7 @@ unrepeated all (w ∷ ws) none =
     (λ new. (new, unrepeated all ws (sym (cond-false _ (Some w.column) (repeat_in all ws) new) ∙ none)))
     (cases_Bool (seen_before all w.column w.bytes))
 
-unseen : (ws : List WordV) (column : ℕ) (bytes : List ℕ) → seen_before ws column bytes ≡ false → All (λ u. u.column < column → u.bytes ≡ bytes → ⊥) ws
+unseen : (ws : List WordV) (column : ℕ) (bytes : List ℕ) → seen_before ws column bytes ≡ false → AllByRecursion (λ u. u.column < column → u.bytes ≡ bytes → ⊥) ws
 unseen [] column bytes new = tt
 unseen (w ∷ ws) column bytes new =
     let parts = or_parts (ltb w.column column && bytes_eq w.bytes bytes) (seen_before ws column bytes) new in
@@ -89,7 +89,7 @@ unseen (w ∷ ws) column bytes new =
 pub all_differ : (ws : List WordV) → repeat_in ws ws ≡ None → AllDiffer ws
 all_differ ws none u v has-u has-v same =
     let rows = unrepeated ws ws none in
-    let apart : (x y : WordV) → Has ws x → Has ws y → x.column < y.column → x.bytes ≡ y.bytes → ⊥ =
+    let apart : (x y : WordV) → ContainsAt ws x → ContainsAt ws y → x.column < y.column → x.bytes ≡ y.bytes → ⊥ =
     λ x y has-x has-y.
     all-has (λ z. z.column < y.column → z.bytes ≡ y.bytes → ⊥) ws x (unseen ws y.column y.bytes (all-has (λ w. seen_before ws w.column w.bytes ≡ false) ws y rows has-y)) has-x in
     ⊎_elim

@@ -1,6 +1,6 @@
 -- The words of a text that stands alone, how many they are, and whether one of them comes again.
 use Rattle.std.specs.Prelude.{◌≡◌, ℕ, Bool, false, cond, ◌&&◌, ◌||◌, List, [], ◌∷◌, Some, None, Option, nat_lt}
-use Rattle.std.specs.List.{ContainsAt as Has}
+use Rattle.std.specs.List.{ContainsAt}
 use Rattle.std.specs.Str.{bytes_eq}
 use Rattle.words.specs.Words.{WordV, Place}
 
@@ -20,4 +20,4 @@ repeat_in all (w ∷ ws) = cond (seen_before all w.column w.bytes) (Some w.colum
 
 -- Any two of the words that have the same bytes begin at the same column, so that they are one word.
 abbrev pub AllDiffer : List WordV → Type 0
-AllDiffer ws = (u v : WordV) → Has ws u → Has ws v → u.bytes ≡ v.bytes → u.column ≡ v.column
+AllDiffer ws = (u v : WordV) → ContainsAt ws u → ContainsAt ws v → u.bytes ≡ v.bytes → u.column ≡ v.column

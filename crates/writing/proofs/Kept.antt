@@ -2,7 +2,7 @@
 use Rattle.std.proofs.Common.{◌≡◌, ℕ, ◌≤◌, cond, List, [], ◌∷◌, length, drop, Some, Ok, Err, codes, sym, refl, ap, ◌∙◌, subst, arith}
 use Rattle.std.proofs.lemmas.Slice.Eq.{bytes_eq-Decides}
 use Rattle.std.proofs.lemmas.Bool.{ltb-false, cond-true, cond-false}
-use Rattle.std.specs.List.{AllByRecursion as All}
+use Rattle.std.specs.List.{AllByRecursion}
 use Rattle.std.specs.Str.{bytes_eq}
 use Rattle.text.specs.Faults.{fault}
 use Rattle.text.specs.declared.faults.Wrong.TheVariants as wrong
@@ -112,12 +112,12 @@ kind_gave p (says_form.Partner name) good is =
 abbrev LineGave : File → Place → Said → Type 0
 LineGave file p s = (l : LineV) × (line_at file (key_said s) p ≡ Ok l) × (said l ≡ s)
 
-all_names_gave : (ws : List WordV) → All Named (texts ws) → all_names ws ≡ Ok tt
+all_names_gave : (ws : List WordV) → AllByRecursion Named (texts ws) → all_names ws ≡ Ok tt
 all_names_gave [] all = refl
 all_names_gave (w ∷ ws) all = cond-true (is_name w.bytes) (all_names ws) (Err (fault wrong.Word w.column)) all.0 ∙ all_names_gave ws all.1
 
 -- a type of the values `a`, `b` and others
-type_gave : (file : File) (p : Place) (name a b : List ℕ) (others : List (List ℕ)) → Named name → Named a → Named b → All Named others → left p ≡ name ∷ a ∷ b ∷ others
+type_gave : (file : File) (p : Place) (name a b : List ℕ) (others : List (List ℕ)) → Named name → Named a → Named b → AllByRecursion Named others → left p ≡ name ∷ a ∷ b ∷ others
     → LineGave file p (says.«Type» name (a ∷ b ∷ others))
 type_gave file p name a b others good good-a good-b all is =
     let q = next p in
@@ -128,7 +128,7 @@ type_gave file p name a b others good good-a good-b all is =
     let second = a_name.gave (next q) b others good-b first.rest in
     let row : texts (words_left (start values.bytes)) ≡ a ∷ b ∷ others =
     left_start values.bytes ∙ sym (left_at q (ltb-false (length q.text) q.at here.more)) ∙ n.rest in
-    let left-names = all_names_gave (words_left (next (next q))) (subst (All Named) (sym second.rest) all) in
+    let left-names = all_names_gave (words_left (next (next q))) (subst (AllByRecursion Named) (sym second.rest) all) in
     let made = line.«Type» n.x values in (
       made,
       go_on (name_at p) (λ name. bind (rest_at q) (λ values. bind (name_at q) (λ _. bind (name_at (next q)) (λ _. bind (all_names (words_left (next (next q)))) (λ _. Ok (line.«Type» name values)))))) n.x n.is
@@ -140,7 +140,7 @@ type_gave file p name a b others good good-a good-b all is =
       (λ i. says.«Type» (n.says i) (row i)),
     )
 
-values_gave : (file : File) (p : Place) (name : List ℕ) (values : List (List ℕ)) → Named name → 2 ≤ length values → All Named values → left p ≡ name ∷ values
+values_gave : (file : File) (p : Place) (name : List ℕ) (values : List (List ℕ)) → Named name → 2 ≤ length values → AllByRecursion Named values → left p ≡ name ∷ values
     → LineGave file p (says.«Type» name values)
 values_gave file p name [] good two all is = absurd (omega arith)
 values_gave file p name (a ∷ []) good two all is = absurd (omega arith)

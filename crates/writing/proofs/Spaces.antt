@@ -1,7 +1,7 @@
 -- A text and the words between its spaces, wherever they stand.
 use Rattle.std.proofs.Common.{◌≡◌, ℕ, ◌+◌, ◌≤◌, Bool, true, false, cond, eqb, List, [], ◌∷◌, ◌++◌, length, drop, sym, refl, ap, ◌∙◌, arith}
 use Rattle.std.proofs.lemmas.Bool.{eqb-true, le-ltb, cond-false, and_parts, not-true}
-use Rattle.std.specs.List.{AllByRecursion as All}
+use Rattle.std.specs.List.{AllByRecursion}
 use Rattle.keys.specs.declared.Key.{Key}
 use Rattle.words.specs.Repeats.{start}
 use Rattle.words.specs.Words.{WordV, Place, over, column, lengthened, words, words_left, no_space, every, first_place}
@@ -64,12 +64,12 @@ pieces_led ws is (b ∷ w) solid =
     ap (λ t. opened t b (pieces (w ++ each_spaced ws))) (not-true (eqb b 32) parts.0)
     ∙ ap (opened false b) (pieces_led ws is w parts.1)
 
-pieces_behind : (ws : List (List ℕ)) → All Solid ws → pieces (each_spaced ws) ≡ [] ∷ ws
+pieces_behind : (ws : List (List ℕ)) → AllByRecursion Solid ws → pieces (each_spaced ws) ≡ [] ∷ ws
 pieces_behind [] all = refl
 pieces_behind (w ∷ ws) all = ap (λ l. [] ∷ l) (pieces_led ws (pieces_behind ws all.1) w all.0)
 
 -- the words of words with single spaces between them are those words
-pub pieces_spaced : (w : List ℕ) (ws : List (List ℕ)) → Solid w → All Solid ws → pieces (spaced (w ∷ ws)) ≡ w ∷ ws
+pub pieces_spaced : (w : List ℕ) (ws : List (List ℕ)) → Solid w → AllByRecursion Solid ws → pieces (spaced (w ∷ ws)) ≡ w ∷ ws
 pieces_spaced w ws solid all = pieces_led ws (pieces_behind ws all) w solid
 
 -- the words that are left at a place

@@ -2,7 +2,7 @@
 use Rattle.std.proofs.Common.{◌≡◌, ℕ, true, cond, List, [], ◌∷◌, length, drop, Some, None, Ok, Err, codes, Option, sym, refl, ap, ◌∙◌, subst, ⊎_elim, arith}
 use Rattle.std.proofs.lemmas.Slice.Eq.{bytes_eq-Decides}
 use Rattle.std.proofs.lemmas.Bool.{ltb-false, cond-true, cond-false, cases_Bool}
-use Rattle.std.specs.List.{AllByRecursion as All}
+use Rattle.std.specs.List.{AllByRecursion}
 use Rattle.std.specs.Str.{bytes_eq}
 use Rattle.text.specs.Faults.{fault}
 use Rattle.text.specs.declared.faults.Wrong.TheVariants as wrong
@@ -125,7 +125,7 @@ kind_took p k is =
 abbrev LineTook : File → Key → List (List ℕ) → LineV → Type 0
 LineTook file k ws l = (key_said (said l) ≡ k) × (ws ≡ words_said file (said l)) × PartsSound (said l)
 
-all_named : (ws : List WordV) (u : Unit {0}) → all_names ws ≡ Ok u → All Named (texts ws)
+all_named : (ws : List WordV) (u : Unit {0}) → all_names ws ≡ Ok u → AllByRecursion Named (texts ws)
 all_named [] u is = tt
 all_named (w ∷ ws) u is =
     let first = first_ok (is_name w.bytes) (all_names ws) (fault wrong.Word w.column) u is in
@@ -148,7 +148,7 @@ type_took file p l is =
     ∙ ap (λ w. pieces w.bytes) (sym (same_ok (record { bytes = drop (next p).at (next p).text; column = column (next p) }) values.0 there.1))
     ∙ sym (left_at (next p) (ltb-false (length (next p).text) (next p).at there.0)) in
     let begins : left (next p) ≡ first.0.bytes ∷ second.0.bytes ∷ left (next (next (next p))) = one.0 ∙ ap (λ l. first.0.bytes ∷ l) two.0 in
-    let all : All Named row = subst (All Named) (sym (same ∙ begins)) (one.1, (two.1, all_named (words_left (next (next (next p)))) others.0 others.1)) in
+    let all : AllByRecursion Named row = subst (AllByRecursion Named) (sym (same ∙ begins)) (one.1, (two.1, all_named (words_left (next (next (next p)))) others.0 others.1)) in
     subst (LineTook file key.«Type» (left p)) (same_ok (line.«Type» name.0 values.0) l others.2)
     (refl, named.0 ∙ ap (λ l. name.0.bytes ∷ l) (sym same), (named.1, omega (arith, ap length (same ∙ begins)), all))
 

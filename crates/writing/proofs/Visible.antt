@@ -2,7 +2,7 @@
 use Rattle.std.proofs.Common.{◌≡◌, ℕ, ◌+◌, ◌≤◌, Bool, true, cond, ◌&&◌, eqb, ltb, leb, List, [], ◌∷◌, ◌++◌, length, Some, None, codes, refl, ◌∙◌, ⊎_elim, arith}
 use Rattle.std.proofs.ByRecursion.{All-weaker}
 use Rattle.std.proofs.lemmas.Bool.{leb-true, le-leb, le-ltb, eqb-true, ne_eqb, and_parts, and_from, or_cases, not_from_false, cond-true, cond-false}
-use Rattle.std.specs.List.{prefix_len, AllByRecursion as All}
+use Rattle.std.specs.List.{prefix_len, AllByRecursion}
 use Rattle.text.specs.Faults.{fault}
 use Rattle.text.specs.Lines.{printable, byte_fault}
 use Rattle.text.specs.declared.faults.Wrong.TheVariants as wrong
@@ -82,7 +82,7 @@ number_seen n short = every_weaker digit visible digit_visible (written_number n
 -- one word or more, all visible
 abbrev AllSeen : List (List ℕ) → Type 0
 AllSeen [] = ⊥
-AllSeen (w ∷ ws) = Seen w × All Seen ws
+AllSeen (w ∷ ws) = Seen w × AllByRecursion Seen ws
 
 form_seen : (f : FormSaid) → FormSound f → AllSeen (form_words f)
 form_seen (form.Var name) good = (refl, (name_seen name good, tt))
@@ -96,7 +96,7 @@ form_seen (form.Or left right) good = (refl, (number_seen left good.0, (number_s
 form_seen (form.Imp left right) good = (refl, (number_seen left good.0, (number_seen right good.1, tt)))
 form_seen (form.Ite test then other) good = (refl, (number_seen test good.0, (number_seen then good.1, (number_seen other good.2, tt))))
 
-kind_seen : (k : KindSaid) → KindSound k → All Seen (kind_words k)
+kind_seen : (k : KindSaid) → KindSound k → AllByRecursion Seen (kind_words k)
 kind_seen form.Guard good = (refl, tt)
 kind_seen form.Unchanged good = (refl, tt)
 kind_seen (form.Partner name) good = (refl, (name_seen name good, tt))
@@ -138,7 +138,7 @@ visible_printable = every_weaker visible printable (λ b is.
     let least = leb-true 33 b sides.0 in
     and_from (leb 32 b) (leb b 126) (le-leb 32 b (omega arith)) sides.1)
 
-each_printable : (ws : List (List ℕ)) → All Seen ws → every printable (each_spaced ws) ≡ true
+each_printable : (ws : List (List ℕ)) → AllByRecursion Seen ws → every printable (each_spaced ws) ≡ true
 each_printable [] seen = refl
 each_printable (w ∷ ws) seen = every_append printable w (each_spaced ws) (visible_printable w seen.0) (each_printable ws seen.1)
 
