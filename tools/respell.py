@@ -77,6 +77,21 @@ APART = {
 }
 
 
+# What the kit's script imports under an old name that means something else now.
+PLAIN = {"All": "AllByRecursion", "Has": "ContainsAt"}
+
+
+def plain(text):
+    """The text with the library's own names in the place of those aliases."""
+    for alias, name in PLAIN.items():
+        if f"{name} as {alias}" in text:
+            text = text.replace(f"{name} as {alias}", name)
+            word = re.compile(rf"(?<!{WORD})(?<!\.){alias}(?!{WORD})")
+            lines = text.split("\n")
+            text = "\n".join(line if line.lstrip().startswith("--") else word.sub(name, line) for line in lines)
+    return text
+
+
 def camel(name):
     return "".join(part[:1].upper() + part[1:] for part in name.split("-"))
 
@@ -97,7 +112,7 @@ def main():
     tokens = collections.defaultdict(set)
     for path in files():
         text = open(path, encoding="utf-8").read()
-        for name in defined(path):
+        for name in [*defined(path), *re.findall(r" as ([a-z]+(?:-[a-z]+)+)(?=[,}])", text)]:
             if respelled(name) != name:
                 own[name].add(path)
         for m in re.finditer(r"goal\.(" + WORD + r"+)", text):
@@ -143,7 +158,7 @@ def main():
                 return old
             return names[old]
 
-        new = TOKEN.sub(turn, text)
+        new = plain(TOKEN.sub(turn, text))
         if new != text:
             open(path, "w", encoding="utf-8").write(new)
             changed += 1
