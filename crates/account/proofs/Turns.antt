@@ -1,5 +1,5 @@
 -- What one turn of going through a file comes to.
-use Rattle.std.proofs.Common.{◌≡◌, ℕ, ◌+◌, ◌^◌, ◌<◌, Bool, true, false, cond, List, length, get_or, set, IfErr, Ok, Err, Result, ap, ⊎_elim, arith}
+use Rattle.std.proofs.Common.{◌≡◌, ℕ, ◌+◌, ◌≤◌, Bool, true, false, cond, List, length, get_or, set, Ok, Err, Result, ap, ⊎_elim, arith}
 use Rattle.std.proofs.lemmas.List.{get_or-set_same, get_or-set_other, set_past}
 use Rattle.std.proofs.lemmas.Bool.{cases_lt, cases_eq}
 use Rattle.text.specs.Faults.{fault}
@@ -11,29 +11,25 @@ use Rattle.keys.specs.declared.Key.{Key}
 use Rattle.line.specs.Lines.{LineV, key_of_line}
 use Rattle.line.specs.Reading.{read, recognised}
 use Rattle.line.specs.declared.lines.File.{File}
-use Rattle.account.specs.Accounts.{counted, taken, Small}
+use Rattle.account.specs.Accounts.{counted, taken}
 use Rattle.account.specs.declared.Tally.{Tally}
 
--- what holds of a fault
-pub refused_at : {A E : Type 0} (r : Result A E) (e : E) (P : Type 0) → r ≡ Err e → IfErr r (λ _. P) → P
-refused_at (Ok x) e P is holds = absurd (let z : ◌≡◌ {A = ℕ} 0 1 = cc in omega arith)
-refused_at (Err y) e P is holds = holds
+-- no count passes the number of lines
+abbrev pub Small : Tally → Type 0
+Small tally = (k : ℕ) → get_or tally.kinds k 0 ≤ tally.lines
 
 -- one line more keeps the tally small
-pub small_counted : (key : Key) (tally : Tally) → Small tally → tally.lines < 2 ^ 62 → Small (counted key tally)
-small_counted key tally small room =
-    let i = key_number key in (
-      omega arith,
-      λ k.
-          ⊎_elim
-          (λ here.
-          ⊎_elim
-          (λ inside. omega (arith, small.1 i, ap (λ j. get_or (set tally.kinds i (get_or tally.kinds i 0 + 1)) j 0) here, get_or-set_same tally.kinds i (get_or tally.kinds i 0 + 1) 0 inside))
-          (λ past. omega (arith, small.1 k, ap (λ xs. get_or xs k 0) (set_past tally.kinds i (get_or tally.kinds i 0 + 1) past)))
-          (cases_lt i (length tally.kinds)))
-          (λ other. omega (arith, small.1 k, get_or-set_other tally.kinds i k (get_or tally.kinds i 0 + 1) 0 other))
-          (cases_eq k i),
-    )
+pub small_counted : (key : Key) (tally : Tally) → Small tally → Small (counted key tally)
+small_counted key tally small k =
+    let i = key_number key in
+    ⊎_elim
+    (λ here.
+    ⊎_elim
+    (λ inside. omega (arith, small i, ap (λ j. get_or (set tally.kinds i (get_or tally.kinds i 0 + 1)) j 0) here, get_or-set_same tally.kinds i (get_or tally.kinds i 0 + 1) 0 inside))
+    (λ past. omega (arith, small k, ap (λ xs. get_or xs k 0) (set_past tally.kinds i (get_or tally.kinds i 0 + 1) past)))
+    (cases_lt i (length tally.kinds)))
+    (λ other. omega (arith, small k, get_or-set_other tally.kinds i k (get_or tally.kinds i 0 + 1) 0 other))
+    (cases_eq k i)
 
 module _ (file : File) (tally made : Tally) where
   by_words : (r : Result LineV LineFault) → bind r (λ read. Ok (counted (key_of_line read) tally)) ≡ Ok made → (key : Key) × (made ≡ counted key tally)

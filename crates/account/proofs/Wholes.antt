@@ -1,17 +1,18 @@
 -- What is known of a file that was read to its end, and of a text that is cut one by one.
-use Rattle.std.proofs.Common.{◌≡◌, ℕ, ◌+◌, ◌≤◌, ◌&&◌, eqb, ltb, List, [], ◌∷◌, ◌++◌, length, Some, None, Ok, Err, Option, Result, sym, refl, ap, ◌∙◌, subst, ⊎_elim, add-zero, arith}
+use Rattle.std.proofs.Common.{◌≡◌, ℕ, ◌+◌, Bool, true, false, cond, ◌&&◌, eqb, ltb, List, [], ◌∷◌, ◌++◌, length, Some, None, Ok, Err, Option, Result, sym, refl, ap, ◌∙◌, subst, ⊎_elim, add-zero, arith}
 use Rattle.std.proofs.lemmas.List.{append-nil, nil_from_length}
-use Rattle.std.proofs.lemmas.Bool.{cases_Bool, cond-true, cond-false, and_parts, eqb-true, le-ltb}
+use Rattle.std.proofs.lemmas.Bool.{cases_Bool, cond-true, cond-false, and_parts, eqb-true}
 use Rattle.std.specs.List.{flat_map}
 use Rattle.std.specs.Option.{option_map}
 use Rattle.text.proofs.Cuts.{split_together, cut_line, cut_fault, FirstFault}
 use Rattle.text.specs.Lines.{split, together, cut, byte_fault, tail_fault}
 use Rattle.text.specs.Walk.{Outcome, unless, settled, walk}
-use Rattle.text.specs.declared.faults.FileFault.TheVariants.{Line}
+use Rattle.text.specs.declared.faults.FileFault.TheVariants.{TooLong, Line}
 use Rattle.text.specs.declared.faults.LineFault.{LineFault}
 use Rattle.text.specs.declared.faults.Placed.{Placed}
 use Rattle.line.specs.declared.lines.File.{File}
 use Rattle.account.specs.Accounts.{taken, nothing, gone_through, account, Whole, CutUp, done, more}
+use Rattle.account.specs.declared.Account.{Account}
 use Rattle.account.specs.declared.Tally.{Tally}
 use Rattle.account.proofs.Turns.{taken_counted}
 
@@ -97,13 +98,18 @@ module _ (file : File) where
         all_counted = omega (arith, ended.all);
       }
 
--- the two ways in which a file of few enough bytes ends
-module _ (file : File) (text : List ℕ) (few : length text ≤ 65536) where
-  pub account_is : (after : Tally) (fault : Option Placed) → record { state = after; fault = fault } ≡ gone_through file text
-      → record { bytes = length text; tally = after; fault = option_map Line fault } ≡ account file text
-  account_is after fault is =
-      ap (λ (o : Outcome Tally). record { bytes = length text; tally = o.state; fault = option_map Line o.fault }) is ∙ sym (cond-false (ltb 65536 (length text)) _ _ (le-ltb 65536 (length text) few))
+-- and so it is of an account that tells of no fault
+not_long : (file : File) (text : List ℕ) (long : Bool) (short : Account) → (cond long (record { bytes = length text; tally = nothing; fault = Some TooLong }) short).fault ≡ None
+    → (short.fault ≡ None → Whole text short.tally)
+    → Whole text (cond long (record { bytes = length text; tally = nothing; fault = Some TooLong }) short).tally
+not_long file text true short none is = absurd (some≢none none)
+not_long file text false short none is = is none
 
-  pub whole_is : (after : Tally) → record { state = after; fault = None } ≡ gone_through file text → Whole text after
-  whole_is after is =
-      subst (Whole text) (ap (λ (o : Outcome Tally). o.state) (sym is)) (whole file text (ap (λ (o : Outcome Tally). o.fault) (sym is)))
+no_fault : (fault : Option Placed) → option_map Line fault ≡ None → fault ≡ None
+no_fault None none = refl
+no_fault (Some placed) none = absurd (some≢none none)
+
+pub account_whole : (file : File) (text : List ℕ) → (account file text).fault ≡ None → Whole text (account file text).tally
+account_whole file text none =
+    let o = gone_through file text in
+    not_long file text (ltb 65536 (length text)) (record { bytes = length text; tally = o.state; fault = option_map Line o.fault }) none (λ none. whole file text (no_fault o.fault none))

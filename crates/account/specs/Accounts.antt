@@ -1,8 +1,7 @@
 -- The account of a file: how many lines of each kind it has, up to its end or to its first fault.
-use Rattle.std.specs.Prelude.{◌≡◌, ℕ, ◌+◌, ◌^◌, ◌<◌, ◌≤◌, false, cond, List, [], ◌∷◌, ◌++◌, length, replicate, Some, Ok, Err, Result, ◌==◌, nat_lt, slice_index, slice_set}
+use Rattle.std.specs.Prelude.{◌≡◌, ℕ, ◌+◌, false, cond, List, [], ◌∷◌, ◌++◌, length, replicate, Some, Ok, Err, Result, ◌==◌, nat_lt, slice_index, slice_set}
 use Rattle.std.specs.List.{flat_map}
 use Rattle.std.specs.Option.{option_map}
-use Rattle.std.specs.Result.{result_err}
 use Rattle.text.specs.Faults.{fault}
 use Rattle.keys.specs.Keys.{key_number}
 use Rattle.text.specs.Lines.{split, cut}
@@ -10,7 +9,6 @@ use Rattle.text.specs.Walk.{Outcome, walk_through}
 use Rattle.words.specs.Words.{bind}
 use Rattle.text.specs.declared.faults.FileFault.TheVariants.{TooLong, Line}
 use Rattle.text.specs.declared.faults.LineFault.{LineFault}
-use Rattle.text.specs.declared.faults.Placed.{Placed}
 use Rattle.text.specs.declared.faults.Wrong.TheVariants as wrong
 use Rattle.keys.specs.declared.Key.{Key}
 use Rattle.keys.specs.declared.Key.TheVariants as keys
@@ -35,11 +33,14 @@ counted key tally =
 
 -- What is made of a line: it is counted, unless its key is not the file's, it follows the end, or its words are at
 -- fault. The first of these that fits is the fault.
-abbrev pub taken : File → Tally → List ℕ → Result Tally LineFault
-taken file tally line =
+abbrev pub taken_by : (Key → Tally → Tally) → File → Tally → List ℕ → Result Tally LineFault
+taken_by count file tally line =
     bind (recognised file line) (λ p.
     cond tally.ended (Err (fault wrong.Key 1))
-    (bind (read file p.0 p.1) (λ read. Ok (counted (key_of_line read) tally))))
+    (bind (read file p.0 p.1) (λ read. Ok (count (key_of_line read) tally))))
+
+abbrev pub taken : File → Tally → List ℕ → Result Tally LineFault
+taken file tally line = taken_by counted file tally line
 
 -- Going through the lines of a text.
 abbrev pub gone_through : File → List ℕ → Outcome Tally
@@ -67,15 +68,7 @@ pub record Whole (text : List ℕ) (tally : Tally) : Type 0 where
 abbrev pub SameLines : List ℕ → Type 0
 SameLines text = (lines : List (List ℕ)) → CutUp text lines → lines ≡ (split text).lines
 
--- No count passes the number of lines, which leaves room for one more.
-abbrev pub Small : Tally → Type 0
-Small tally = (tally.lines < 2 ^ 63) × ((k : ℕ) → slice_index tally.kinds k ≤ tally.lines)
-
 -- What a call made of a tally: the tally as it left it, or the fault.
 abbrev pub answered : Result (Unit {0}) LineFault → Tally → Result Tally LineFault
 answered (Ok u) after = Ok after
 answered (Err wrong) after = Err wrong
-
--- What going through a file came to: the tally as it was left, and the fault.
-abbrev pub outcome : Result (Unit {0}) Placed → Tally → Outcome Tally
-outcome r after = record { state = after; fault = result_err r }

@@ -2,23 +2,23 @@
 
 #![tactic(auto)]
 
-ghost use Rattle.std.specs.Prelude.{◌≡◌, ℕ, ◌+◌, ◌^◌, ◌<◌, ◌≤◌, ◌&&◌, length, None, OnErr, ◌==◌, slice_index};
-ghost use Rattle.account.specs.Accounts.{nothing, counted, taken, answered, outcome, gone_through, account as the_account, Whole, SameLines, Small};
+ghost use Rattle.std.specs.Prelude.{◌≡◌, true, None, OnErr, slice_index};
+ghost use Rattle.account.specs.Accounts.{nothing, taken_by, answered, account as the_account, Whole, SameLines};
+ghost use Rattle.account.specs.Counters.{counted_up, counter_step};
+ghost use Rattle.account.specs.declared.Counter.{Counter};
 ghost use Rattle.keys.specs.Keys.{key_number};
 
 use keys::Key;
 use line::lines::File;
 use line::reading::{read_line, recognise};
-use text::faults::{FileFault, LineFault, Placed, Wrong, at_line};
-use text::lines::cut_line;
+use reading::files::{Reader, read_file};
+use text::faults::{FileFault, LineFault, Wrong, at_line};
 
 // How many keys there are.
 const KEYS: usize = 11;
 
-// A file has at most this many bytes.
-const MOST_BYTES: usize = 65_536;
-
-// The lines that were read, and how many of each key; whether the `end` line was among them.
+// The lines that were read, and how many of each key; whether the `end` line was among them. The keys are numbered from 0, so that
+// an array of counts by their numbers is the map from keys to counts.
 #[derive(Clone, Copy, Drop)]
 pub struct Tally {
     pub lines: usize,
@@ -45,28 +45,24 @@ impl Tally {
         }
     }
 
+    // One line more of this key. The sums stop at the last number, which no file comes to, so that nothing is asked of the tally.
     fn count(&mut self, key: Key)
-        requires there_is_room { Small self.old }
-        ensures one_line_more { self.new ≡ counted key self.old }
+        ensures one_line_more { self.new ≡ counted_up key self.old }
     {
         let i = key.number() as usize;
-        self.kinds[i] += 1;
-        self.lines += 1;
-        self.ended = key.number() == Key::End.number();
+        self.kinds[i] = self.kinds[i].saturating_add(1);
+        self.lines = self.lines.saturating_add(1);
+        self.ended = key == Key::End;
     }
 
     // A line of the file is counted, or is at fault and changes nothing.
     fn take(&mut self, file: File, line: &[u8]) -> Result<(), LineFault>
-        requires there_is_room { Small self.old }
-        ensures what_is_made_of_the_line { answered result self.new ≡ taken file self.old line.now }
+        ensures what_is_made_of_the_line { answered result self.new ≡ taken_by counted_up file self.old line.now }
         ensures a_fault_changes_nothing { OnErr result (self.new ≡ self.old) }
     {
         let (key, rest) = recognise(file, line)?;
         if self.ended {
-            return Err(LineFault {
-                wrong: Wrong::Key,
-                column: 1,
-            });
+            return Err(Wrong::Key.at(1));
         }
         let read = read_line(file, key, rest)?;
         self.count(read.key());
@@ -74,51 +70,50 @@ impl Tally {
     }
 }
 
-// Whether the file's `end` line was read and nothing follows it.
-fn is_done(tally: &Tally, rest: &[u8]) -> bool
-    ensures ended_and_nothing_left { result ≡ (tally.now.ended && length rest.now == 0) }
-{
-    tally.ended && rest.is_empty()
+// A file of this kind, and what is counted of it so far.
+#[derive(Drop)]
+struct Counter {
+    file: File,
+    tally: Tally,
 }
 
-// Line by line to the end of the file, or to its first fault.
-fn walk(file: File, bytes: &[u8], tally: &mut Tally) -> Result<(), Placed>
-    requires nothing_is_counted { tally.old ≡ nothing }
-    requires few_bytes { length bytes.now ≤ 65536 }
-    ensures every_line_in_turn { outcome result tally.new ≡ gone_through file bytes.now }
-{
-    let mut rest = bytes;
-    let mut number = 1;
-    while !is_done(tally, rest) {
-        let (line, after) = at_line(number, cut_line(rest))?;
-        at_line(number, tally.take(file, line))?;
-        rest = after;
-        number += 1;
+impl Reader for Counter {
+    type Fault = FileFault;
+
+    ghost State = { Counter };
+
+    ghost seen = { λ counter. counter };
+
+    ghost step = { counter_step };
+
+    ghost ended = { λ counter. counter.tally.ended };
+
+    ghost steady = { true };
+
+    fn take(&mut self, number: usize, line: &[u8]) -> Result<(), FileFault> {
+        at_line(number, self.tally.take(self.file, line)).map_err(FileFault::from)
     }
-    Ok(())
+
+    fn is_ended(&self) -> bool {
+        self.tally.ended
+    }
 }
 
 // The account of a file.
+#[tactic(auto, using(crate::proofs::Walks::account_read, crate::proofs::Wholes::account_whole, crate::proofs::Wholes::cut_up_lines))]
 pub fn survey(file: File, bytes: &[u8]) -> Account
     ensures the_account_of_the_file { result ≡ the_account file bytes.now }
     ensures read_to_its_end_it_is_its_lines_all_counted { result.fault ≡ None → Whole bytes.now result.tally }
     ensures cut_one_by_one_it_has_the_same_lines { SameLines bytes.now }
 {
-    let mut tally = Tally::new();
-    if bytes.len() > MOST_BYTES {
-        return Account {
-            bytes: bytes.len(),
-            tally,
-            fault: Some(FileFault::TooLong),
-        };
-    }
-    let fault = match walk(file, bytes, &mut tally) {
-        Ok(()) => None,
-        Err(placed) => Some(FileFault::from(placed)),
+    let mut counter = Counter {
+        file,
+        tally: Tally::new(),
     };
+    let fault = read_file(&mut counter, bytes).err();
     Account {
         bytes: bytes.len(),
-        tally,
+        tally: counter.tally,
         fault,
     }
 }

@@ -10,12 +10,12 @@ some≢none : {A : Type 0} {x : A} → Some x ≡ None → ⊥
 some≢none e = let z : ◌≡◌ {A = ℕ} 0 1 = cc in omega arith
 
 -- a text that is a front and a rest gives the rest
-pub after_front : (front rest : List ℕ) → after front (front ++ rest) ≡ Some rest
+after_front : (front rest : List ℕ) → after front (front ++ rest) ≡ Some rest
 after_front [] rest = refl
 after_front (x ∷ front) rest = cond-true (eqb x x) _ None (eq-eqb x x refl) ∙ after_front front rest
 
 -- what gives a rest is the front and that rest
-pub front_after : (front text rest : List ℕ) → after front text ≡ Some rest → front ++ rest ≡ text
+front_after : (front text rest : List ℕ) → after front text ≡ Some rest → front ++ rest ≡ text
 front_after [] text rest is = let e : text ≡ rest = cc in sym e
 front_after (x ∷ front) [] rest is = absurd (some≢none (sym is))
 front_after (x ∷ front) (y ∷ text) rest is =
@@ -23,24 +23,6 @@ front_after (x ∷ front) (y ∷ text) rest is =
     (λ same. (λ i. sym (eqb-true y x same) i ∷ front_after front text rest (sym (cond-true (eqb y x) (after front text) None same) ∙ is) i))
     (λ other. absurd (some≢none (sym is ∙ cond-false (eqb y x) (after front text) None other)))
     (cases_Bool (eqb y x))
-
-or_else_assoc : {A : Type 0} (x y z : Option A) → or_else x (or_else y z) ≡ or_else (or_else x y) z
-or_else_assoc (Some x) y z = refl
-or_else_assoc None y z = refl
-
-first_of_append : (keys more : List Key) (line : List ℕ) → first_of (keys ++ more) line ≡ or_else (first_of keys line) (first_of more line)
-first_of_append [] more line = refl
-first_of_append (key ∷ keys) more line =
-    let here = option_map (λ rest. (key, rest)) (after (word key ++ codes "=") line) in
-    ap (or_else here) (first_of_append keys more line) ∙ or_else_assoc here (first_of keys line) (first_of more line)
-
--- a key that was found among the first is found among all
-pub settled : (keys more : List Key) (line : List ℕ) (found : Key × List ℕ) → Some found ≡ first_of keys line → Some found ≡ first_of (keys ++ more) line
-settled keys more line found is = ap (λ x. or_else x (first_of more line)) is ∙ sym (first_of_append keys more line)
-
--- where none of the first fits, the others are asked
-pub passed : (keys more : List Key) (line : List ℕ) → None ≡ first_of keys line → first_of more line ≡ first_of (keys ++ more) line
-passed keys more line none = ap (λ x. or_else x (first_of more line)) none ∙ sym (first_of_append keys more line)
 
 -- none of these keys fits the line
 abbrev AllMiss : List Key → List ℕ → Type 0

@@ -51,16 +51,12 @@ impl Key {
     pub fn width(self) -> u8
         ensures the_length_of_the_word_and_its_equals_sign { result ≡ length (line_with self []) }
     {
-        match self {
-            Key::Protocol | Key::Proposal => 9,
-            Key::Cause => 6,
-            Key::Type | Key::Term | Key::Init | Key::Rule => 5,
-            Key::Var | Key::Set | Key::End | Key::Inv => 4,
-        }
+        self.word().len() as u8 + 1
     }
 }
 
-// The keys of four letters.
+// The keys of four letters. Here and in the four functions below they are byte patterns in groups of one length: stripping off the
+// word of one key after another takes a third more instructions a byte.
 fn four_letters(line: &[u8]) -> Option<(Key, &[u8])>
     ensures the_key_and_what_follows { seen result ≡ first_of (Key.«Type» ∷ Key.Term ∷ Key.Init ∷ Key.Rule ∷ []) line.now }
 {
@@ -143,17 +139,9 @@ pub fn split_key(line: &[u8]) -> Option<(Key, &[u8])>
     ensures the_key_and_what_follows { seen result ≡ key_of line.now }
     ensures put_together_they_are_the_line_or_no_key_fits { MatchOption result (Keyless line.now) (λ p. line_with p.0 p.1.now ≡ line.now) }
 {
-    if let Some(found) = four_letters(line) {
-        return Some(found);
-    }
-    if let Some(found) = three_letters(line) {
-        return Some(found);
-    }
-    if let Some(found) = of_a_cause(line) {
-        return Some(found);
-    }
-    if let Some(found) = of_a_protocol(line) {
-        return Some(found);
-    }
-    of_a_proposal(line)
+    four_letters(line)
+        .or_else(|| three_letters(line))
+        .or_else(|| of_a_cause(line))
+        .or_else(|| of_a_protocol(line))
+        .or_else(|| of_a_proposal(line))
 }

@@ -1,3 +1,4 @@
+pub mod Following
 pub mod Forms
 pub mod Lines
 pub mod Operators

@@ -35,13 +35,6 @@ abbrev pub first_of : List Operator → List ℕ → Option Operator
 first_of [] word = None
 first_of (operator ∷ others) word = cond (bytes_eq word (spelled operator)) (Some operator) (first_of others word)
 
--- The operators of forms without numbers, and of forms over earlier terms.
-abbrev pub leaves : List Operator
-leaves = Var ∷ Val ∷ True ∷ False ∷ []
-
-abbrev pub connectives : List Operator
-connectives = Eq ∷ Not ∷ And ∷ Or ∷ Imp ∷ Ite ∷ []
-
 -- The operator that is written so, or none.
 abbrev pub operator_of : List ℕ → Option Operator
 operator_of word = first_of (Var ∷ Val ∷ True ∷ False ∷ Eq ∷ Not ∷ And ∷ Or ∷ Imp ∷ Ite ∷ []) word

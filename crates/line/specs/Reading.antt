@@ -6,13 +6,12 @@ use Rattle.std.specs.Result.{result_map_both}
 use Rattle.std.specs.Str.{bytes_eq}
 use Rattle.text.specs.Faults.{fault}
 use Rattle.keys.specs.Keys.{key_of}
-use Rattle.words.specs.Words.{WordV, Place, next, bind, word_at, name_at, number_at, nothing_at, rest_at, words_left, all_names, word_seen, first_place}
+use Rattle.words.specs.Words.{WordV, Place, next, bind, word_at, name_at, number_at, nothing_at, rest_at, words_left, all_names, first_place}
 use Rattle.text.specs.declared.faults.LineFault.{LineFault}
 use Rattle.text.specs.declared.faults.Wrong.TheVariants as wrong
 use Rattle.keys.specs.declared.Key.{Key}
 use Rattle.keys.specs.declared.Key.TheVariants as key
 use Rattle.words.specs.declared.Number.{Number}
-use Rattle.words.specs.declared.Word.{Word}
 use Rattle.line.specs.Forms.{FormV, KindV, form_seen, kind_seen}
 use Rattle.line.specs.Forms as form
 use Rattle.line.specs.Lines.{LineV, belongs, ending, line_seen}
@@ -29,25 +28,32 @@ use Rattle.line.specs.declared.operators.Operator.TheVariants as operator
 abbrev pub last : {A : Type 0} → Place → A → Result A LineFault
 last p read = bind (nothing_at p) (λ _. Ok read)
 
+-- One word, read in some way, and nothing more; and two words, each read in its way.
+abbrev pub one : {A : Type 0} → (Place → Result A LineFault) → Place → Result A LineFault
+one at p = bind (at p) (λ a. last (next p) a)
+
+abbrev pub two : {A B : Type 0} → (Place → Result A LineFault) → (Place → Result B LineFault) → Place → Result (A × B) LineFault
+two first second p = bind (first p) (λ a. bind (second (next p)) (λ b. last (next (next p)) (a, b)))
+
 -- One name, two names, one number, two, three, a name and a number; and nothing more.
 abbrev pub one_name : Place → Result WordV LineFault
-one_name p = bind (name_at p) (λ a. last (next p) a)
+one_name p = one name_at p
 
 abbrev pub two_names : Place → Result (WordV × WordV) LineFault
-two_names p = bind (name_at p) (λ a. bind (name_at (next p)) (λ b. last (next (next p)) (a, b)))
+two_names p = two name_at name_at p
 
 abbrev pub one_number : Place → Result Number LineFault
-one_number p = bind (number_at p) (λ a. last (next p) a)
+one_number p = one number_at p
 
 abbrev pub two_numbers : Place → Result (Number × Number) LineFault
-two_numbers p = bind (number_at p) (λ a. bind (number_at (next p)) (λ b. last (next (next p)) (a, b)))
+two_numbers p = two number_at number_at p
 
 abbrev pub three_numbers : Place → Result (Number × Number × Number) LineFault
 three_numbers p =
     bind (number_at p) (λ a. bind (number_at (next p)) (λ b. bind (number_at (next (next p))) (λ d. last (next (next (next p))) (a, b, d))))
 
 abbrev pub name_and_number : Place → Result (WordV × Number) LineFault
-name_and_number p = bind (name_at p) (λ a. bind (number_at (next p)) (λ b. last (next (next p)) (a, b)))
+name_and_number p = two name_at number_at p
 
 -- What follows an operator: `var V`, `val TYPE VALUE`, `true`, `false`, `eq A B`, `not A`, `and A B`, `or A B`,
 -- `imp A B`, `ite F A B`.
@@ -132,20 +138,17 @@ abbrev pub recognised : File → List ℕ → Result (Key × List ℕ) LineFault
 recognised file line = known_in file (key_of line)
 
 -- What the program's answers stand for.
-abbrev pub pair_seen : Result (Word × Word) LineFault → Result (WordV × WordV) LineFault
-pair_seen = result_map_both (λ p. (word_seen p.0, word_seen p.1)) (λ fault. fault)
-
-abbrev pub name_number_seen : Result (Word × Number) LineFault → Result (WordV × Number) LineFault
-name_number_seen = result_map_both (λ p. (word_seen p.0, p.1)) (λ fault. fault)
+abbrev pub answer : {A B : Type 0} → (A → B) → Result A LineFault → Result B LineFault
+answer view = result_map_both view (λ fault. fault)
 
 abbrev pub form_answer : Result Form LineFault → Result FormV LineFault
-form_answer = result_map_both form_seen (λ fault. fault)
+form_answer = answer form_seen
 
 abbrev pub kind_answer : Result Kind LineFault → Result KindV LineFault
-kind_answer = result_map_both kind_seen (λ fault. fault)
+kind_answer = answer kind_seen
 
 abbrev pub line_answer : Result Line LineFault → Result LineV LineFault
-line_answer = result_map_both line_seen (λ fault. fault)
+line_answer = answer line_seen
 
 abbrev pub key_answer : Result (Key × Bor (List ℕ)) LineFault → Result (Key × List ℕ) LineFault
-key_answer = result_map_both (λ p. (p.0, p.1.now)) (λ fault. fault)
+key_answer = answer (λ p. (p.0, p.1.now))

@@ -2,6 +2,7 @@
 
 #![tactic(auto)]
 
+pub mod following;
 pub mod lines;
 pub mod operators;
 pub mod reading;

@@ -18,12 +18,12 @@ impl File {
     pub fn has(self, key: Key) -> bool
         ensures whether_the_key_belongs_there { result ≡ belongs self key }
     {
-        match (self, key) {
-            (_, Key::Term | Key::End) => true,
-            (File::Protocol, Key::Proposal | Key::Inv | Key::Cause) => false,
-            (File::Protocol, _) => true,
-            (File::Proposal, Key::Proposal | Key::Inv | Key::Cause) => true,
-            (File::Proposal, _) => false,
+        match self {
+            File::Protocol => !matches!(key, Key::Proposal | Key::Inv | Key::Cause),
+            File::Proposal => matches!(
+                key,
+                Key::Proposal | Key::Term | Key::Inv | Key::Cause | Key::End
+            ),
         }
     }
 
@@ -38,7 +38,8 @@ impl File {
     }
 }
 
-// What a `term` line says.
+// What a `term` line says. Beside the `Term` of a table, which holds numbers and no words of the file, so that it outlives the
+// text.
 #[derive(Clone, Copy)]
 pub enum Form<'a> {
     Var {
@@ -76,7 +77,8 @@ pub enum Form<'a> {
     },
 }
 
-// Why a rule keeps an invariant.
+// Why a rule keeps an invariant, with its partner by name. Beside the `Cause` of a claim, which has it by number: one type for both
+// would give each definition over causes a parameter.
 #[derive(Clone, Copy)]
 pub enum Kind<'a> {
     // The guard alone ensures that the invariant is true after the assignments.

@@ -1,140 +1,121 @@
 // Reading the words of a line.
-ghost use Rattle.std.specs.Prelude.{◌≡◌};
-ghost use Rattle.words.specs.Words.{place, seen};
-ghost use Rattle.line.specs.Reading.{one_name, two_names, one_number, two_numbers, three_numbers, name_and_number, pair_seen, name_number_seen};
+ghost use Rattle.std.specs.Prelude.{◌≡◌, Result};
+ghost use Rattle.text.specs.declared.faults.LineFault.{LineFault};
+ghost use Rattle.words.specs.declared.Number.{Number};
+ghost use Rattle.words.specs.Words.{WordV, Place, place, next, word_seen, name_at, number_at};
+ghost use Rattle.line.specs.Reading.{answer, one, two, three_numbers};
 ghost use Rattle.line.specs.Reading.{form_behind, form_at, kind_at, type_at, cause_at, end_at, line_at, read, recognised, form_answer, kind_answer, line_answer, key_answer};
 
 use crate::lines::{File, Form, Kind, Line};
 use crate::operators::{Operator, find_operator};
 use keys::{Key, split_key};
 use text::faults::{LineFault, Wrong};
-use words::{Number, Word, Words, is_word};
+use words::{Number, Word, Words};
 
-// One name and nothing more.
-fn read_name<'a>(mut words: Words<'a>) -> Result<Word<'a>, LineFault>
-    ensures one_name_and_nothing_more { seen result ≡ one_name (place words.entry) }
-{
-    let name = words.name()?;
-    words.nothing_more()?;
-    Ok(name)
+// What a word of a line may be read as.
+trait Part<'a>: Copy {
+    // What a value of it stands for, and what the word at a place is.
+    ghost View: { Type 0 };
+
+    ghost view: { Self → View };
+
+    ghost at: { Place → Result View LineFault };
+
+    // The next word, read so.
+    fn next(words: &mut Words<'a>) -> Result<Self, LineFault>
+        ensures what_the_word_is_or_the_fault { answer view result ≡ at (place words.old) }
+        ensures where_the_next_begins { place words.new ≡ next (place words.old) };
 }
 
-fn read_two_names<'a>(mut words: Words<'a>) -> Result<(Word<'a>, Word<'a>), LineFault>
-    ensures two_names_and_nothing_more { pair_seen result ≡ two_names (place words.entry) }
+impl<'a> Part<'a> for Word<'a> {
+    ghost View = { WordV };
+
+    ghost view = { word_seen };
+
+    ghost at = { name_at };
+
+    fn next(words: &mut Words<'a>) -> Result<Word<'a>, LineFault> {
+        words.name()
+    }
+}
+
+impl<'a> Part<'a> for Number {
+    ghost View = { Number };
+
+    ghost view = { λ number. number };
+
+    ghost at = { number_at };
+
+    fn next(words: &mut Words<'a>) -> Result<Number, LineFault> {
+        words.number()
+    }
+}
+
+// One part and nothing more.
+fn read_one<'a, P: Part<'a>>(mut words: Words<'a>) -> Result<P, LineFault>
+    ensures one_part_and_nothing_more { answer P.view result ≡ one P.at (place words.entry) }
 {
-    let first = words.name()?;
-    let second = read_name(words)?;
+    let part = P::next(&mut words)?;
+    words.nothing_more()?;
+    Ok(part)
+}
+
+// Two parts and nothing more.
+fn read_two<'a, P: Part<'a>, Q: Part<'a>>(mut words: Words<'a>) -> Result<(P, Q), LineFault>
+    ensures two_parts_and_nothing_more { answer (λ p. (P.view p.0, Q.view p.1)) result ≡ two P.at Q.at (place words.entry) }
+{
+    let first = P::next(&mut words)?;
+    let second = read_one(words)?;
     Ok((first, second))
 }
 
-fn read_number(mut words: Words<'_>) -> Result<Number, LineFault>
-    ensures one_number_and_nothing_more { result ≡ one_number (place words.entry) }
-{
-    let number = words.number()?;
-    words.nothing_more()?;
-    Ok(number)
-}
-
-fn read_two_numbers(mut words: Words<'_>) -> Result<(Number, Number), LineFault>
-    ensures two_numbers_and_nothing_more { result ≡ two_numbers (place words.entry) }
-{
-    let first = words.number()?;
-    let second = read_number(words)?;
-    Ok((first, second))
-}
-
+// Three numbers and nothing more.
 fn read_three_numbers(mut words: Words<'_>) -> Result<(Number, Number, Number), LineFault>
     ensures three_numbers_and_nothing_more { result ≡ three_numbers (place words.entry) }
 {
     let first = words.number()?;
-    let second = words.number()?;
-    let third = words.number()?;
-    words.nothing_more()?;
+    let (second, third) = read_two(words)?;
     Ok((first, second, third))
 }
 
-fn read_name_and_number<'a>(mut words: Words<'a>) -> Result<(Word<'a>, Number), LineFault>
-    ensures a_name_and_a_number_and_nothing_more { name_number_seen result ≡ name_and_number (place words.entry) }
-{
-    let name = words.name()?;
-    let number = read_number(words)?;
-    Ok((name, number))
-}
-
+// The form of this operator, from the words behind it.
 fn form_after<'a>(operator: Operator, words: Words<'a>) -> Result<Form<'a>, LineFault>
     ensures what_follows_the_operator { form_answer result ≡ form_behind operator (place words.entry) }
 {
-    let form = match operator {
-        Operator::Var => match read_name(words) {
-            Ok(name) => Form::Var { name },
-            Err(fault) => return Err(fault),
+    match operator {
+        Operator::Var => read_one(words).map(|name| Form::Var { name }),
+        Operator::Val => read_two(words).map(|(of, value)| Form::Val { of, value }),
+        Operator::True => words.nothing_more().map(|()| Form::True),
+        Operator::False => words.nothing_more().map(|()| Form::False),
+        Operator::Eq => read_two(words).map(|(left, right)| Form::Eq { left, right }),
+        Operator::Not => read_one(words).map(|of| Form::Not { of }),
+        Operator::And => read_two(words).map(|(left, right)| Form::And { left, right }),
+        Operator::Or => read_two(words).map(|(left, right)| Form::Or { left, right }),
+        Operator::Imp => read_two(words).map(|(left, right)| Form::Imp { left, right }),
+        Operator::Ite => {
+            read_three_numbers(words).map(|(test, yes, no)| Form::Ite { test, yes, no })
         },
-        Operator::Val => match read_two_names(words) {
-            Ok((of, value)) => Form::Val { of, value },
-            Err(fault) => return Err(fault),
-        },
-        Operator::True | Operator::False => match words.nothing_more() {
-            Ok(()) => match operator {
-                Operator::True => Form::True,
-                _ => Form::False,
-            },
-            Err(fault) => return Err(fault),
-        },
-        Operator::Not => match read_number(words) {
-            Ok(of) => Form::Not { of },
-            Err(fault) => return Err(fault),
-        },
-        Operator::Eq | Operator::And | Operator::Or | Operator::Imp => match read_two_numbers(
-            words,
-        ) {
-            Ok((left, right)) => match operator {
-                Operator::Eq => Form::Eq { left, right },
-                Operator::And => Form::And { left, right },
-                Operator::Or => Form::Or { left, right },
-                _ => Form::Imp { left, right },
-            },
-            Err(fault) => return Err(fault),
-        },
-        Operator::Ite => match read_three_numbers(words) {
-            Ok((test, yes, no)) => Form::Ite { test, yes, no },
-            Err(fault) => return Err(fault),
-        },
-    };
-    Ok(form)
+    }
 }
 
 fn read_form<'a>(mut words: Words<'a>) -> Result<Form<'a>, LineFault>
     ensures the_form_of_the_term { form_answer result ≡ form_at (place words.entry) }
 {
     let word = words.next_word()?;
-    match find_operator(word.bytes) {
-        Some(operator) => form_after(operator, words),
-        None => Err(LineFault {
-            wrong: Wrong::Word,
-            column: word.column,
-        }),
-    }
+    let operator = find_operator(word.bytes).ok_or(Wrong::Word.at(word.column))?;
+    form_after(operator, words)
 }
 
 fn read_kind<'a>(mut words: Words<'a>) -> Result<Kind<'a>, LineFault>
     ensures the_kind_of_the_cause { kind_answer result ≡ kind_at (place words.entry) }
 {
     let word = words.next_word()?;
-    let kind = if is_word(word.bytes, b"1") {
-        Kind::Guard
-    } else if is_word(word.bytes, b"2") {
-        Kind::Unchanged
-    } else if is_word(word.bytes, b"3") {
-        let name = words.name()?;
-        Kind::Partner { name }
-    } else {
-        return Err(LineFault {
-            wrong: Wrong::Word,
-            column: word.column,
-        });
-    };
-    words.nothing_more()?;
-    Ok(kind)
+    match word.bytes {
+        b"1" => words.nothing_more().map(|()| Kind::Guard),
+        b"2" => words.nothing_more().map(|()| Kind::Unchanged),
+        b"3" => read_one(words).map(|name| Kind::Partner { name }),
+        _ => Err(Wrong::Word.at(word.column)),
+    }
 }
 
 fn read_type<'a>(mut words: Words<'a>) -> Result<Line<'a>, LineFault>
@@ -165,62 +146,29 @@ fn read_end<'a>(file: File, mut words: Words<'a>) -> Result<Line<'a>, LineFault>
     ensures the_end_line_of_its_file { line_answer result ≡ end_at file (place words.entry) }
 {
     let word = words.next_word()?;
-    if !is_word(word.bytes, file.ending()) {
-        return Err(LineFault {
-            wrong: Wrong::Word,
-            column: word.column,
-        });
+    if word.bytes != file.ending() {
+        return Err(Wrong::Word.at(word.column));
     }
-    words.nothing_more()?;
-    Ok(Line::End)
+    words.nothing_more().map(|()| Line::End)
 }
 
 // The line of this key whose words these are.
 fn line_after<'a>(file: File, key: Key, words: Words<'a>) -> Result<Line<'a>, LineFault>
     ensures the_line_of_its_key { line_answer result ≡ line_at file key (place words.entry) }
 {
-    let line = match key {
-        Key::Type => return read_type(words),
-        Key::Cause => return read_cause(words),
-        Key::End => return read_end(file, words),
-        Key::Term => match read_form(words) {
-            Ok(form) => Line::Term { form },
-            Err(fault) => return Err(fault),
-        },
-        Key::Protocol | Key::Proposal => match read_name(words) {
-            Ok(name) => match key {
-                Key::Protocol => Line::Protocol { name },
-                _ => Line::Proposal { name },
-            },
-            Err(fault) => return Err(fault),
-        },
-        Key::Var => match read_two_names(words) {
-            Ok((name, of)) => Line::Var { name, of },
-            Err(fault) => return Err(fault),
-        },
-        Key::Init => match read_number(words) {
-            Ok(formula) => Line::Init { formula },
-            Err(fault) => return Err(fault),
-        },
-        Key::Rule | Key::Set | Key::Inv => match read_name_and_number(words) {
-            Ok((name, number)) => match key {
-                Key::Rule => Line::Rule {
-                    name,
-                    guard: number,
-                },
-                Key::Set => Line::Set {
-                    variable: name,
-                    term: number,
-                },
-                _ => Line::Inv {
-                    name,
-                    formula: number,
-                },
-            },
-            Err(fault) => return Err(fault),
-        },
-    };
-    Ok(line)
+    match key {
+        Key::Protocol => read_one(words).map(|name| Line::Protocol { name }),
+        Key::Type => read_type(words),
+        Key::Var => read_two(words).map(|(name, of)| Line::Var { name, of }),
+        Key::Term => read_form(words).map(|form| Line::Term { form }),
+        Key::Init => read_one(words).map(|formula| Line::Init { formula }),
+        Key::Rule => read_two(words).map(|(name, guard)| Line::Rule { name, guard }),
+        Key::Set => read_two(words).map(|(variable, term)| Line::Set { variable, term }),
+        Key::End => read_end(file, words),
+        Key::Proposal => read_one(words).map(|name| Line::Proposal { name }),
+        Key::Inv => read_two(words).map(|(name, formula)| Line::Inv { name, formula }),
+        Key::Cause => read_cause(words),
+    }
 }
 
 // The key of a line in this file and what follows its equals sign. A key that is absent, unknown or the other file's is
@@ -228,13 +176,9 @@ fn line_after<'a>(file: File, key: Key, words: Words<'a>) -> Result<Line<'a>, Li
 pub fn recognise<'a>(file: File, line: &'a [u8]) -> Result<(Key, &'a [u8]), LineFault>
     ensures the_key_and_what_follows_or_the_fault { key_answer result ≡ recognised file line.now }
 {
-    match split_key(line) {
-        Some((key, rest)) if file.has(key) => Ok((key, rest)),
-        _ => Err(LineFault {
-            wrong: Wrong::Key,
-            column: 1,
-        }),
-    }
+    split_key(line)
+        .filter(|(key, _)| file.has(*key))
+        .ok_or(Wrong::Key.at(1))
 }
 
 // The line of this key whose words stand in `rest`.

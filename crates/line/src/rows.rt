@@ -6,6 +6,7 @@ use crate::lines::File;
 use keys::Key;
 
 // The row of a key; 0 for a key of the other file.
+// A row is a number, since the order asks which of two is further down and whether one is just below the other.
 pub fn row_number(file: File, key: Key) -> u8
     ensures the_row_of_the_key { result ≡ row_of file key }
 {
@@ -45,13 +46,11 @@ fn is_in_order(file: File, last: u8, row: u8) -> bool
     last == row || (last < row && (last + 1 == row || needed_row(file) <= last))
 }
 
+// Whether this is no `set` line, or one below a rule or another `set` line.
 fn has_its_rule(file: File, last: u8, key: Key) -> bool
     ensures whether_a_set_line_is_below_a_rule { result ≡ is_below_its_rule file last key }
 {
-    match key {
-        Key::Set => last == row_number(file, key),
-        _ => true,
-    }
+    key != Key::Set || last == row_number(file, key)
 }
 
 // Whether a line of this key may follow a line of row `last`, or begin the file if `last` is 0.

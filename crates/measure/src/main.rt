@@ -13,47 +13,43 @@ use terms::{Assignment, Term};
 // A variable, a value, their equation, and then each term over the one before it, so that the term of number N is made of all
 // up to it.
 fn table(heap: Global) -> Result<Vec<Term>, AllocError> {
-    let mut terms = Vec::new(heap);
-    terms.push(Term::Var(0))?;
-    terms.push(Term::Val(0, 0))?;
-    terms.push(Term::Eq(0, 1))?;
-    for n in 2..511u16 {
-        if n % 2 == 0 {
-            terms.push(Term::Not(n))?;
+    let mut terms = vec![in heap; Term::Var(0), Term::Val(0, 0), Term::Eq(0, 1)]?;
+    for n in 2..511 {
+        terms.push(if n % 2 == 0 {
+            Term::Not(n)
         } else {
-            terms.push(Term::And(n, 2))?;
-        }
+            Term::And(n, 2)
+        })?;
     }
     Ok(terms)
+}
+
+// The number that a word is, or the default if there is no word.
+fn number_or(word: Option<String>, default: u16) -> anyhow::Result<u16> {
+    match word {
+        Some(word) => Ok(word.as_str().parse::<u16>()?),
+        None => Ok(default),
+    }
 }
 
 fn run(rt: &HostRuntime) -> anyhow::Result<()> {
     let heap = rt.alloc();
     let mut words = env::args(rt)?;
     let _program = words.next();
-    let formula = match words.next() {
-        Some(word) => word.as_str().parse::<u16>()?,
-        None => 511,
-    };
-    let times = match words.next() {
-        Some(word) => word.as_str().parse::<u16>()?,
-        None => 1,
-    };
+    let formula = number_or(words.next(), 511)?;
+    let times = number_or(words.next(), 1)?;
     let terms = table(heap)?;
-    let copies = match Copies::new(heap, terms.as_slice()) {
-        Ok(copies) => copies,
-        Err(_) => return Err(anyhow!("the table is refused")),
-    };
+    let copies = Copies::new(heap, terms.as_slice()).map_err(|_| anyhow!("the table is refused"))?;
     let sets = [Assignment {
         variable: 0,
         term: 1,
     }];
     let mut new = 0;
     for _ in 0..times {
-        match precondition(heap, &copies, &sets, formula) {
-            Ok(answer) => new = answer.scratch.len(),
-            Err(_) => return Err(anyhow!("the precondition is refused")),
-        }
+        let answer = precondition(heap, &copies, &sets, formula).map_err(|_| anyhow!(
+            "the precondition is refused"
+        ))?;
+        new = answer.scratch.len();
     }
     println!(rt; "term {formula}, new terms {new}")?;
     Ok(())

@@ -1,48 +1,38 @@
--- A loop that looks for a name among others, by the names that are left.
-use Rattle.std.proofs.Common.{◌≡◌, ℕ, zero, suc, ◌+◌, ◌<◌, ◌≤◌, Bool, true, false, cond, List, [], ◌∷◌, map, length, get_or, drop, Some, None, Option, sym, refl, ap, ◌∙◌, subst, add-zero, arith, MatchOption}
+-- Where a name stands among those of the rows, and what this says of the rows.
+use Rattle.std.proofs.Common.{◌≡◌, ℕ, zero, suc, ◌+◌, ◌<◌, cond, not, ltb, List, [], ◌∷◌, map, length, get_or, Some, None, Option, sym, refl, ap, ◌∙◌, subst, ⊎_elim, one-add, arith, MatchOption}
 use Rattle.std.proofs.lemmas.Slice.Eq.{bytes_eq-Decides}
-use Rattle.std.proofs.lemmas.List.{at_drop_more, at_drop_all, get_or-map, length-map}
-use Rattle.std.proofs.lemmas.Bool.{cond-true, cond-false, cond_both, both_ways}
+use Rattle.std.proofs.lemmas.Bool.{lt-ltb, le-ltb, cond-true, cond-false, cond_both, both_ways, cases_lt, cases_Bool}
+use Rattle.std.specs.List.{position, position_or_len}
 use Rattle.std.specs.Option.{option_map}
 use Rattle.std.specs.Str.{bytes_eq}
 use Rattle.names.specs.Names.{place_in}
 
--- `i` names were passed, and the name is where it is among those that are left, counted on from there
-abbrev pub Passed : List (List ℕ) → List ℕ → ℕ → Type 0
-Passed names name i = place_in names name ≡ option_map (λ k. i + k) (place_in (drop i names) name)
-
-mapped_suc : (i : ℕ) (o : Option ℕ) → option_map (λ k. i + k) (option_map suc o) ≡ option_map (λ k. i + 1 + k) o
-mapped_suc i None = refl
-mapped_suc i (Some k) = ap Some (omega arith)
-
-module _ (names : List (List ℕ)) (name : List ℕ) (i : ℕ) (so_far : Passed names name i) where
-  -- where the name is, by the next of the names
-  by_next : i < length names → place_in names name ≡ option_map (λ k. i + k) (cond (bytes_eq (get_or names i []) name) (Some 0) (option_map suc (place_in (drop (i + 1) names) name)))
-  by_next inside = so_far ∙ ap (option_map (λ k. i + k)) (at_drop_more (λ ns. place_in ns name) names i [] inside)
-
-  -- the next one is not the name
-  pub passed_more : i < length names → bytes_eq (get_or names i []) name ≡ false → Passed names name (i + 1)
-  passed_more inside other = by_next inside ∙ ap (option_map (λ k. i + k)) (cond-false _ _ _ other) ∙ mapped_suc i (place_in (drop (i + 1) names) name)
-
-  -- the next one is the name
-  pub passed_here : i < length names → bytes_eq (get_or names i []) name ≡ true → Some i ≡ place_in names name
-  passed_here inside is = sym (by_next inside ∙ ap (option_map (λ k. i + k)) (cond-true _ _ _ is) ∙ ap Some (add-zero i))
-
-  -- no names are left
-  pub passed_all : length names ≤ i → None ≡ place_in names name
-  passed_all past = sym (so_far ∙ ap (option_map (λ k. i + k)) (at_drop_all (λ ns. place_in ns name) names i past))
+-- one row more in front, which is not the one
+one_further : (m n : ℕ) → cond (ltb (1 + m) (suc n)) (Some (1 + m)) None ≡ option_map suc (cond (ltb m n) (Some m) None)
+one_further m n =
+    ⊎_elim
+    (λ lt. cond-true _ (Some (1 + m)) None (lt-ltb (1 + m) (suc n) (omega arith)) ∙ ap Some (one-add m) ∙ sym (ap (option_map suc) (cond-true _ (Some m) None (lt-ltb m n lt))))
+    (λ ge. cond-false _ (Some (1 + m)) None (le-ltb (1 + m) (suc n) (omega arith)) ∙ sym (ap (option_map suc) (cond-false _ (Some m) None (le-ltb m n ge))))
+    (cases_lt m n)
 
 module _ {X : Type 0} (named : X → List ℕ) where
-  -- what a row is called is what stands at its number among the names of the rows
-  pub same_at : (rows : List X) (name : List ℕ) (i : ℕ) (x : X) (bytes : List ℕ) (b : Bool) → i < length rows → x ≡ get_or rows i x → bytes ≡ named x → b ≡ bytes_eq bytes name → bytes_eq (get_or (map named rows) i []) name ≡ b
-  same_at rows name i x bytes b inside there called is =
-      ap (λ n. bytes_eq n name) (get_or-map named rows i x [] inside ∙ ap named (sym there) ∙ sym called) ∙ sym is
-
-  pub inside_map : (rows : List X) (i : ℕ) → i < length rows → i < length (map named rows)
-  inside_map rows i inside = omega (arith, length-map rows named)
-
-  pub past_map : (rows : List X) (i : ℕ) → length rows ≤ i → length (map named rows) ≤ i
-  past_map rows i past = omega (arith, length-map rows named)
+  -- the first row with the name stands where its name stands among the names
+  pub by_position : (rows : List X) (name : List ℕ) → position (λ x. bytes_eq (named x) name) rows ≡ place_in (map named rows) name
+  by_position [] name = refl
+  by_position (x ∷ rows) name =
+      let m = position_or_len (λ y. bytes_eq (named y) name) rows in
+      let n = length rows in
+      ⊎_elim
+      (λ same.
+      (λ i. cond (ltb (cond (not (same i)) (1 + m) 0) (suc n)) (Some (cond (not (same i)) (1 + m) 0)) None)
+      ∙ cond-true _ (Some 0) None (lt-ltb 0 (suc n) (omega arith))
+      ∙ sym (cond-true _ (Some 0) _ same))
+      (λ other.
+      (λ i. cond (ltb (cond (not (other i)) (1 + m) 0) (suc n)) (Some (cond (not (other i)) (1 + m) 0)) None)
+      ∙ one_further m n
+      ∙ ap (option_map suc) (by_position rows name)
+      ∙ sym (cond-false _ (Some 0) _ other))
+      (cases_Bool (bytes_eq (named x) name))
 
   -- what a number says of the rows: the row with this number has the name, and with no number no row has it
   abbrev pub Told : List X → List ℕ → Option ℕ → Type 0

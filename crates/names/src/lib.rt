@@ -5,14 +5,12 @@
 ghost use Rattle.std.specs.Prelude.{◌≡◌, ℕ, ◌<◌, List, [], map, length, IfOk, Decides, MatchOption, ◌≢◌, slice_index_or};
 ghost use Rattle.names.specs.Names.{spelled, place_in};
 ghost use Rattle.std.specs.Str.{bytes_eq};
-ghost use Rattle.std.specs.Cmp.Rules.{comparing};
-ghost use Rattle.std.proofs.Common.{rules};
 
 use std::alloc::{AllocError, Global};
 use words::is_word;
 
 // An owned name.
-#[derive(Drop)]
+#[derive(Drop, PartialEq)]
 pub struct Name {
     bytes: Vec<u8>,
 }
@@ -31,8 +29,9 @@ impl Name {
     pub fn copy_of(heap: Global, bytes: &[u8]) -> Result<Name, AllocError>
         ensures a_name_with_these_bytes { IfOk result (λ n. spelled n ≡ bytes.now) }
     {
-        let bytes = bytes.to_vec(heap)?;
-        Ok(Name { bytes })
+        Ok(Name {
+            bytes: bytes.to_vec(heap)?,
+        })
     }
 
     // Its bytes.
@@ -42,25 +41,19 @@ impl Name {
         self.bytes.as_slice()
     }
 
-    // The same name once more.
+    // The same name once more, in a heap that the caller gives: a `clone` takes memory from the heap that the name has.
     pub fn copy(&self, heap: Global) -> Result<Name, AllocError>
         ensures a_name_spelled_the_same { IfOk result (λ n. spelled n ≡ spelled self.now) }
     {
         Name::copy_of(heap, self.as_bytes())
     }
-}
 
-// Two names are equal if they are spelled the same, and only then.
-impl PartialEq for Name {
-    ghost eq = { λ x y. bytes_eq (spelled x) (spelled y) };
-
-    ghost laws = { Prim.search (comparing, rules) };
-
-    fn eq(&self, other: &Name) -> bool
+    // Whether the two are the same name. Beside `==`, since it promises that they are spelled the same.
+    pub fn equals(&self, other: &Name) -> bool
         ensures by_their_bytes { result ≡ bytes_eq (spelled self.now) (spelled other.now) }
         ensures spelled_the_same_and_only_then { Decides result (spelled self.now ≡ spelled other.now) }
     {
-        is_word(self.as_bytes(), other.as_bytes())
+        self == other
     }
 }
 
@@ -86,12 +79,5 @@ pub fn find<T: Named>(rows: &[T], name: &[u8]) -> Option<usize>
     ensures the_number_of_the_first_so_named { result ≡ place_in (map T.Named.named rows.now) name.now }
     ensures found_is_so_named_and_none_means_no_row_is { MatchOption result ((k : ℕ) → k < length rows.now → slice_index_or (map T.Named.named rows.now) k [] ≢ name.now) (λ i. (i < length rows.now) × (slice_index_or (map T.Named.named rows.now) i [] ≡ name.now)) }
 {
-    let mut i = 0;
-    while i < rows.len() {
-        if is_word(rows[i].name(), name) {
-            return Some(i);
-        }
-        i += 1;
-    }
-    None
+    rows.iter().position(|row| is_word(row.name(), name))
 }

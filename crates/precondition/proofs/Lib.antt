@@ -1,3 +1,4 @@
+pub mod Chains
 pub mod Same
 pub mod Placing
 pub mod Canonical

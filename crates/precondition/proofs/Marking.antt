@@ -1,7 +1,7 @@
 -- What is marked as a part of a formula.
-use Rattle.std.proofs.Common.{◌≡◌, ℕ, zero, suc, ◌+◌, ◌-◌, ◌<◌, ◌≤◌, Bool, true, false, List, [], ◌∷◌, length, get_or, drop, set, replicate, sym, refl, ap, ◌∙◌, subst, ap₂, ⊎_elim, arith}
+use Rattle.std.proofs.Common.{◌≡◌, ℕ, zero, suc, ◌+◌, ◌<◌, ◌≤◌, Bool, true, false, List, [], ◌∷◌, ◌++◌, length, get_or, set, replicate, sym, refl, ap, ◌∙◌, subst, ⊎_elim, arith}
 use Rattle.std.proofs.ByRecursion.{All-weaker}
-use Rattle.std.proofs.lemmas.List.{length-set, get_or-set_same, get_or-set_other, set_past, drop_more, get_or-take, length-take-le, length-replicate}
+use Rattle.std.proofs.lemmas.List.{length-set, get_or-set_same, get_or-set_other, set_past, get_or-take, length-take-le, length-replicate}
 use Rattle.std.proofs.lemmas.Bool.{cases_eq, cases_lt, cond_both, cond-true, and_parts}
 use Rattle.std.specs.List.{AllByRecursion}
 use Rattle.terms.specs.declared.Term.{Term}
@@ -87,13 +87,11 @@ closed_from n (t ∷ terms) marks (suc k) is long inside here =
     All-weaker (Marked rest) (Marked (passed_on n t rest)) (λ a marked. passed_keeps n t rest a marked) (arguments (term_at terms k))
     (closed_from (suc n) terms marks k (and_parts _ _ is).1 (omega arith) (omega arith) (sym (passed_apart n t rest (suc n + k) below) ∙ there))
 
--- the marks, one term earlier at a time
-pub marked_step : (terms : List Term) (marks : List Bool) (n : ℕ) → 0 < n → n ≤ length terms → marked_from (n - 1) (drop (n - 1) terms) marks ≡ passed_on (n - 1) (term_at terms (n - 1)) (marked_from n (drop n terms) marks)
-marked_step terms marks n some within =
-    let e : n - 1 + 1 ≡ n = omega arith in
-    let f : suc (n - 1) ≡ n = omega arith in
-    ap (λ rest. marked_from (n - 1) rest marks) (drop_more terms (n - 1) (Var 0) (omega arith))
-    ∙ ap₂ (λ m k. passed_on (n - 1) (term_at terms (n - 1)) (marked_from m (drop k terms) marks)) f e
+-- what is marked when terms at the front are left
+pub record MarkedBut (terms left : List Term) (marks now : List Bool) : Type 0 where
+  pub after : List Term
+  pub split : terms ≡ left ++ after
+  pub so_far : now ≡ marked_from (length left) after marks
 
 -- the terms that a formula is made of
 module _ (terms : List Term) (formula : ℕ) (small : length terms ≤ 512) (inside : formula < length terms) where

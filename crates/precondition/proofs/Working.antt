@@ -8,7 +8,7 @@ use Rattle.std.specs.List.{AllByRecursion}
 use Rattle.semantics.specs.Firing as firing
 use Rattle.semantics.specs.Trees.{Tree}
 use Rattle.semantics.specs.Trees as tree
-use Rattle.terms.proofs.Composed.{read_at}
+use Rattle.std.proofs.Math.ListN.{get_or-map}
 use Rattle.terms.proofs.Tables.{prefix_law, trees_length, trees_push}
 use Rattle.terms.specs.Rules.{assignments}
 use Rattle.terms.specs.Trees.{tree_at, tree_of, trees}
@@ -81,7 +81,7 @@ module _ (forest : List Tree) (sets : List Assignment) where
   some_there count (Ite f a b) m there is = absurd (let z : Never = cc in omega arith)
 
   pub there_at : (n : ℕ) → tree_at (map rep forest) n ≡ rep (tree_at forest n)
-  there_at n = read_at rep forest n
+  there_at n = get_or-map rep forest n tree.False
 
   -- any other term has its arguments replaced
   replaced_none : (t : Term) → replaced_by sets t ≡ None → rep (tree_of forest t) ≡ tree_of (map rep forest) t

@@ -1,13 +1,13 @@
 -- What the steps of the program come to, said without trees.
-use Rattle.std.specs.Prelude.{◌≡◌, ℕ, ◌<◌, ◌≤◌, cond, List, [], ◌∷◌, length, Some, None, Ok, Err, vec_items, Option, Result, ◌==◌, ◌≢◌, slice_index, slice_index_or}
+use Rattle.std.specs.Prelude.{◌≡◌, ℕ, ◌<◌, ◌≤◌, cond, List, [], ◌∷◌, length, Some, None, vec_items, Option, Result, ◌==◌, ◌≢◌, slice_index, slice_index_or}
 use Rattle.terms.specs.declared.Assignment.{Assignment}
 use Rattle.terms.specs.declared.Term.{Term}
 use Rattle.terms.specs.declared.Term.TheVariants.{Var, Val, True, False, Eq, Not, And, Or, Imp, Ite}
 use Rattle.precondition.specs.Tables.{renamed}
 use Rattle.precondition.specs.Writing.{Work}
 use Rattle.precondition.specs.declared.answers.Draft.{Draft}
-use Rattle.precondition.specs.declared.faults.Fault.{Fault}
-use Rattle.precondition.specs.declared.faults.Fault.TheVariants.{Refused, Memory}
+use Rattle.failures.specs.Answers.{Came}
+use Rattle.failures.specs.declared.Failure.{Failure}
 use Rattle.precondition.specs.declared.faults.Refusal.{Refusal}
 
 -- The term of a number.
@@ -50,7 +50,5 @@ work_seen d = record { results = vec_items d.results; scratch = vec_items d.scra
 
 -- A call that writes came to what the definition says: the work as it left it, or the refusal. For want of memory nothing is
 -- said.
-abbrev pub Went : Result (Unit {0}) Fault → Work → Result Work Refusal → Type 0
-Went (Ok u) after said = said ≡ Ok after
-Went (Err (Refused refusal)) after said = said ≡ Err refusal
-Went (Err Memory) after said = Unit {0}
+abbrev pub Went : Result (Unit {0}) (Failure Refusal) → Work → Result Work Refusal → Type 0
+Went = Came

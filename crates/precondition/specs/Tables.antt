@@ -1,5 +1,6 @@
 -- Tables of terms: which are refused, and which copy of each term is the lowest.
 use Rattle.std.specs.Prelude.{ℕ, suc, Bool, true, cond, ◌&&◌, List, [], ◌∷◌, map, length, Ok, Err, Result, nat_lt, slice_index}
+pub use Rattle.terms.specs.Trees.{arguments}
 use Rattle.terms.specs.Trees.{trees}
 use Rattle.terms.specs.declared.Term.{Term}
 use Rattle.terms.specs.declared.Term.TheVariants.{Var, Val, True, False, Eq, Not, And, Or, Imp, Ite}
@@ -14,19 +15,6 @@ number NoSuchTerm = 8
 number ArgumentNotEarlier = 8
 number TooManyTerms = 10
 number ScratchFull = 27
-
--- The numbers of a term's arguments.
-abbrev pub arguments : Term → List ℕ
-arguments (Var v) = []
-arguments (Val of k) = []
-arguments True = []
-arguments False = []
-arguments (Eq a b) = a ∷ b ∷ []
-arguments (Not a) = a ∷ []
-arguments (And a b) = a ∷ b ∷ []
-arguments (Or a b) = a ∷ b ∷ []
-arguments (Imp a b) = a ∷ b ∷ []
-arguments (Ite f a b) = f ∷ a ∷ b ∷ []
 
 -- A term with each of its arguments by another number.
 abbrev pub renamed : (ℕ → ℕ) → Term → Term

@@ -11,8 +11,8 @@ use Rattle.precondition.specs.Parts.{parts, up_to}
 use Rattle.precondition.specs.Places.{place}
 use Rattle.precondition.specs.Tables.{renamed}
 use Rattle.precondition.specs.declared.answers.Precondition.{Precondition}
-use Rattle.precondition.specs.declared.faults.Fault.{Fault}
-use Rattle.precondition.specs.declared.faults.Fault.TheVariants.{Refused, Memory}
+use Rattle.failures.specs.Answers.{Answered}
+use Rattle.failures.specs.declared.Failure.{Failure}
 use Rattle.precondition.specs.declared.faults.Refusal.{Refusal}
 use Rattle.precondition.specs.declared.faults.Refusal.TheVariants.{NoSuchTerm, ScratchFull}
 
@@ -90,7 +90,5 @@ IsPrecondition terms sets formula a =
     tree_at (trees (terms ++ a.scratch)) a.result ≡ firing.precondition (rule terms 0 sets) (tree_at (trees terms) formula)
 
 -- What a call came to is what the definition says. For want of memory nothing is said.
-abbrev pub Came : {A V : Type 0} → (A → V) → Result A Fault → Result V Refusal → Type 0
-Came seen (Ok a) said = said ≡ Ok (seen a)
-Came seen (Err (Refused refusal)) said = said ≡ Err refusal
-Came seen (Err Memory) said = Unit {0}
+abbrev pub Came : {A V : Type 0} → (A → V) → Result A (Failure Refusal) → Result V Refusal → Type 0
+Came = Answered

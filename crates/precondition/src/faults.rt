@@ -1,9 +1,8 @@
 // Why a table or a precondition is refused.
 ghost use Rattle.std.specs.Prelude.{◌≡◌};
 ghost use Rattle.precondition.specs.Tables.{number as number_of};
-ghost use Rattle.precondition.specs.declared.faults.Fault.TheVariants.{Memory as NoMemory};
 
-use std::alloc::AllocError;
+use failures::Failure;
 
 #[derive(Clone, Copy)]
 pub enum Refusal {
@@ -24,32 +23,11 @@ impl Refusal {
     {
         match self {
             Refusal::TooManyTerms => 10,
-            Refusal::ArgumentNotEarlier => 8,
-            Refusal::NoSuchTerm => 8,
+            Refusal::ArgumentNotEarlier | Refusal::NoSuchTerm => 8,
             Refusal::ScratchFull => 27,
         }
     }
 }
 
-#[derive(Clone, Copy)]
-pub enum Fault {
-    Refused(Refusal),
-    // There is no memory for the answer.
-    Memory,
-}
-
-impl From<AllocError> for Fault {
-    ghost from_gives = { λ _ r. r ≡ NoMemory };
-
-    fn from(_value: AllocError) -> Fault {
-        Fault::Memory
-    }
-}
-
-impl<T: Drop> From<std::alloc::AllocFailed<T>> for Fault {
-    ghost from_gives = { λ _ r. r ≡ NoMemory };
-
-    fn from(_value: std::alloc::AllocFailed<T>) -> Fault {
-        Fault::Memory
-    }
-}
+// Why there is no table, or no precondition.
+pub type Fault = Failure<Refusal>;

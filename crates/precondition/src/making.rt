@@ -7,35 +7,23 @@ use crate::copies::Copies;
 use crate::faults::{Fault, Refusal};
 use crate::search::{find, rename};
 use std::alloc::Global;
-use terms::Term;
-
-// A table has at most this many terms.
-const MOST_TERMS: usize = 512;
+use terms::{MOST_TERMS, Term};
 
 // Whether each argument of a term is below a number.
 fn has_arguments_below(term: Term, n: usize) -> bool
     ensures each_argument_is_below { result ≡ all_below n (arguments term) }
 {
-    match term {
-        Term::Var(_) | Term::Val(_, _) | Term::True | Term::False => true,
-        Term::Not(a) => (a as usize) < n,
-        Term::Eq(a, b) | Term::And(a, b) | Term::Or(a, b) | Term::Imp(a, b) => {
-            (a as usize) < n && (b as usize) < n
-        }
-        Term::Ite(f, a, b) => (f as usize) < n && (a as usize) < n && (b as usize) < n,
-    }
+    term.arguments().iter().flatten().all(|a| (*a as usize) < n)
 }
 
 // Whether each argument of each term is the number of an earlier one.
 fn is_formed(terms: &[Term]) -> bool
     ensures each_argument_is_earlier { result ≡ formed terms.now }
 {
-    for n in 0..terms.len() {
-        if !has_arguments_below(terms[n], n) {
-            return false;
-        }
-    }
-    true
+    terms
+        .iter()
+        .enumerate()
+        .all(|(n, term)| has_arguments_below(*term, n))
 }
 
 impl<'a> Copies<'a> {
@@ -51,8 +39,8 @@ impl<'a> Copies<'a> {
         }
         let mut lowest = Vec::new(heap);
         let mut named = Vec::new(heap);
-        for n in 0..terms.len() {
-            let next = rename(lowest.as_slice(), terms[n]);
+        for term in terms {
+            let next = rename(lowest.as_slice(), *term);
             let place = find(named.as_slice(), next);
             lowest.push(place as u16)?;
             named.push(next)?;

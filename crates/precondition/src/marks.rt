@@ -8,6 +8,7 @@ use terms::Term;
 fn mark_number(marks: &mut [bool], n: u16)
     ensures that_number_is_marked { marks.new ≡ slice_set marks.old n true }
 {
+    // By index: get_mut of a slice does not say what the slice holds afterwards.
     if (n as usize) < marks.len() {
         marks[n as usize] = true;
     }
@@ -16,18 +17,8 @@ fn mark_number(marks: &mut [bool], n: u16)
 fn mark_arguments(marks: &mut [bool], term: Term)
     ensures its_arguments_are_marked { marks.new ≡ with_marks marks.old (arguments term) }
 {
-    match term {
-        Term::Var(_) | Term::Val(_, _) | Term::True | Term::False => {}
-        Term::Not(a) => mark_number(marks, a),
-        Term::Eq(a, b) | Term::And(a, b) | Term::Or(a, b) | Term::Imp(a, b) => {
-            mark_number(marks, a);
-            mark_number(marks, b);
-        }
-        Term::Ite(f, a, b) => {
-            mark_number(marks, f);
-            mark_number(marks, a);
-            mark_number(marks, b);
-        }
+    for a in term.arguments().iter().flatten() {
+        mark_number(marks, *a);
     }
 }
 
@@ -46,7 +37,7 @@ pub(crate) fn mark(terms: &[Term], marks: &mut [bool])
     requires a_mark_for_each { length terms.now ≤ length marks.old }
     ensures what_the_marked_are_made_of { marks.new ≡ marked_from 0 terms.now marks.old }
 {
-    for n in (0..terms.len()).rev() {
-        pass_on(marks, n, terms[n]);
+    for (n, term) in terms.iter().enumerate().rev() {
+        pass_on(marks, n, *term);
     }
 }

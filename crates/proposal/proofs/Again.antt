@@ -35,8 +35,8 @@ use Rattle.tables.specs.Lawful.{Names, LawfulTerms, declared_by}
 use Rattle.tables.specs.Records.{TermsV}
 use Rattle.tables.specs.Taking.{term_taken}
 use Rattle.tables.proofs.FormLaws.{next_sound, term_taken_again}
-use Rattle.layered.specs.Lawful.{Lawful}
-use Rattle.layered.specs.Records.{ProtocolV}
+use Rattle.protocol.specs.Lawful.{Lawful}
+use Rattle.protocol.specs.Records.{ProtocolV}
 use Rattle.proposal.specs.Laws.{ShortLine, EveryProposalCanBeKept}
 use Rattle.proposal.specs.Lawful.{LawfulInvariants, LawfulClaims, LawfulWith}
 use Rattle.proposal.specs.Reading.{Draft, begun, ended, taken, line_taken as line_adds, finished, with_name, with_terms, with_invariants, with_claims}

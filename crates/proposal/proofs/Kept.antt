@@ -25,7 +25,7 @@ use Rattle.tables.proofs.Answered.{bind_ok, first_ok, same_ok, unless_ok}
 use Rattle.tables.proofs.LineLaws.{LineNamed, line_named, line_key}
 use Rattle.tables.proofs.RowLaws.{within}
 use Rattle.tables.proofs.TermLaws.{term_lawful}
-use Rattle.layered.specs.Records.{ProtocolV}
+use Rattle.protocol.specs.Records.{ProtocolV}
 use Rattle.proposal.specs.Lawful.{LawfulInvariants, LawfulClaims, LawfulWith}
 use Rattle.proposal.specs.Reading.{Draft, begun, ended, taken, line_taken, finished, with_name, with_terms, with_invariants, with_claims}
 use Rattle.proposal.specs.Records.{InvariantV, ProposalV, followed_by}

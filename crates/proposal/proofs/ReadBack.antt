@@ -16,7 +16,7 @@ use Rattle.reading.specs.Files.{read_through}
 use Rattle.tables.specs.Lawful.{LawfulTerms, declared_by}
 use Rattle.tables.proofs.Answered.{bind_ok, first_ok, same_ok}
 use Rattle.tables.proofs.LineLaws.{line_key}
-use Rattle.layered.specs.Records.{ProtocolV}
+use Rattle.protocol.specs.Records.{ProtocolV}
 use Rattle.proposal.specs.Laws.{NothingIsLost}
 use Rattle.proposal.specs.Reading.{Draft, begun, ended, taken, line_taken, finished}
 use Rattle.proposal.specs.Written.{lines_of, written}

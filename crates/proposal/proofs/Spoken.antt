@@ -29,7 +29,7 @@ use Rattle.tables.specs.Taking.{unknown, used, full, number_in, formula_tests, n
 use Rattle.tables.proofs.Answered.{AllFalse, bind_ok, same_ok, unless_ok}
 use Rattle.tables.proofs.FormLaws.{found_name, form_kept}
 use Rattle.tables.proofs.RowLaws.{within}
-use Rattle.layered.specs.Records.{ProtocolV}
+use Rattle.protocol.specs.Records.{ProtocolV}
 use Rattle.proposal.specs.Reading.{Draft, line_taken, finished, with_name, with_terms, with_invariants, with_claims}
 use Rattle.proposal.specs.Records.{InvariantV, ProposalV}
 use Rattle.proposal.specs.Taking.{name_taken, invariant_names, formula_in, take_invariant, kind_tests, cause_of, claim_of, comes_after, claim_taken}

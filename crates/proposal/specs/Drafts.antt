@@ -1,5 +1,5 @@
 -- What half a file stands for.
-use Rattle.layered.specs.Answers.{protocol_seen}
+use Rattle.protocol.specs.Answers.{protocol_seen}
 use Rattle.proposal.specs.Reading.{Draft}
 use Rattle.proposal.specs.Views.{parts_seen}
 use Rattle.proposal.specs.declared.reader.ProposalReader.{ProposalReader}

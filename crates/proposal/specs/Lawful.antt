@@ -4,7 +4,7 @@ use Rattle.std.specs.Prelude.{◌≡◌, ℕ, ◌+◌, ◌<◌, ◌≤◌, ◌�
 use Rattle.terms.specs.declared.Sort.TheVariants.{Formula}
 use Rattle.tables.specs.Lawful.{Names, LawfulTerms, IsOf, declared_by}
 use Rattle.tables.specs.Records.{TermsV}
-use Rattle.layered.specs.Records.{ProtocolV}
+use Rattle.protocol.specs.Records.{ProtocolV}
 use Rattle.proposal.specs.Causes.{partner_of}
 use Rattle.proposal.specs.Records.{InvariantV, ProposalV, followed_by}
 use Rattle.proposal.specs.Taking.{invariant_names}

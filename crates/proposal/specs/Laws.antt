@@ -5,8 +5,8 @@ use Rattle.line.specs.declared.lines.File.TheVariants as file
 use Rattle.writing.specs.Said.{Said}
 use Rattle.writing.specs.Written.{written_line}
 use Rattle.tables.specs.Lawful.{LawfulTerms, declared_by}
-use Rattle.layered.specs.Lawful.{Lawful}
-use Rattle.layered.specs.Records.{ProtocolV}
+use Rattle.protocol.specs.Lawful.{Lawful}
+use Rattle.protocol.specs.Records.{ProtocolV}
 use Rattle.proposal.specs.Lawful.{LawfulWith}
 use Rattle.proposal.specs.Reading.{proposal_of}
 use Rattle.proposal.specs.Records.{ProposalV}

@@ -13,7 +13,7 @@ use Rattle.line.specs.declared.lines.File.TheVariants as file
 use Rattle.reading.specs.Files.{read_through}
 use Rattle.tables.specs.Records.{TermsV, behind}
 use Rattle.tables.specs.Taking.{term_taken}
-use Rattle.layered.specs.Records.{ProtocolV}
+use Rattle.protocol.specs.Records.{ProtocolV}
 use Rattle.proposal.specs.Records.{InvariantV, ProposalV, empty}
 use Rattle.proposal.specs.Taking.{name_taken, invariant_names, take_invariant, claim_taken}
 use Rattle.proposal.specs.declared.claims.Claim.{Claim}

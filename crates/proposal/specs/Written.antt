@@ -8,7 +8,7 @@ use Rattle.writing.specs.Said.{Said}
 use Rattle.writing.specs.Said as line
 use Rattle.writing.specs.Written.{written_lines}
 use Rattle.tables.specs.Written.{form_of}
-use Rattle.layered.specs.Records.{ProtocolV}
+use Rattle.protocol.specs.Records.{ProtocolV}
 use Rattle.proposal.specs.Records.{InvariantV, ProposalV}
 use Rattle.proposal.specs.Taking.{invariant_names}
 use Rattle.proposal.specs.declared.claims.Cause.{Cause}

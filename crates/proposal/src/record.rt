@@ -1,6 +1,6 @@
 // The record of a proposal.
 ghost use Rattle.std.specs.Prelude.{◌≡◌, ◌⊎◌};
-ghost use Rattle.layered.specs.Records.{ProtocolV};
+ghost use Rattle.protocol.specs.Records.{ProtocolV};
 ghost use Rattle.proposal.specs.Lawful.{LawfulWith};
 ghost use Rattle.proposal.specs.Records.{empty};
 ghost use Rattle.proposal.specs.Views.{parts_seen};

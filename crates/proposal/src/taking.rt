@@ -2,7 +2,7 @@
 ghost use Rattle.std.specs.Prelude.{◌≡◌, length, nat_le};
 ghost use Rattle.line.specs.Lines.{line_seen};
 ghost use Rattle.names.specs.Names.{spelled};
-ghost use Rattle.layered.specs.Answers.{protocol_seen};
+ghost use Rattle.protocol.specs.Answers.{protocol_seen};
 ghost use Rattle.reading.specs.Taking.{Came};
 ghost use Rattle.tables.specs.Views.{terms_seen};
 ghost use Rattle.words.specs.Words.{word_seen};
@@ -12,12 +12,13 @@ ghost use Rattle.proposal.specs.Views.{invariants_seen, parts_seen};
 
 use crate::invariants::{Invariant, InvariantTable};
 use crate::parts::Parts;
-use crate::taking_claims::take_claim;
-use layered::record::Protocol;
+use crate::taking_claims::{CauseLine, take_claim};
 use line::lines::Line;
 use names::{Name, Named};
+use protocol::record::Protocol;
 use reading::faults::TakeFault;
 use std::alloc::Global;
+use tables::taking::check_room;
 use tables::term_table::TermTable;
 use text::faults::{LineFault, Wrong};
 use words::{Number, Word, is_word};
@@ -30,37 +31,22 @@ fn take_name(own: &mut Name, heap: Global, protocol: &[u8], name: Word<'_>) -> R
     ensures the_name_or_the_fault { Came result (spelled own.new) (name_taken protocol.now (word_seen name.entry) (spelled own.old)) }
 {
     if !own.as_bytes().is_empty() {
-        return Err(TakeFault::Refusal(LineFault {
-            wrong: Wrong::TooMany,
-            column: 1,
-        }));
+        return Err(TakeFault::Refused(Wrong::TooMany.at(1)));
     }
     if !is_word(name.bytes, protocol) {
-        return Err(TakeFault::Refusal(LineFault {
-            wrong: Wrong::AnotherProtocol,
-            column: name.column,
-        }));
+        return Err(TakeFault::Refused(Wrong::AnotherProtocol.at(name.column)));
     }
     *own = Name::copy_of(heap, name.bytes)?;
     Ok(())
 }
 
 impl InvariantTable {
-    fn is_full(&self) -> bool
-        ensures whether_no_more_may_stand { result ≡ nat_le 64 (length (invariants_seen self.now)) }
-    {
-        self.rows.len() >= MOST_INVARIANTS
-    }
-
     // The formula of a new invariant, or the fault of its name or number.
     fn new_formula(&self, terms: &TermTable, name: Word<'_>, n: Number) -> Result<u16, LineFault>
         ensures the_formula_or_the_fault { result ≡ formula_in (terms_seen terms.now) (word_seen name.entry) n (invariants_seen self.now) }
     {
         if self.number(name.bytes).is_some() {
-            return Err(LineFault {
-                wrong: Wrong::Used,
-                column: name.column,
-            });
+            return Err(Wrong::Used.at(name.column));
         }
         terms.formula(n)
     }
@@ -77,12 +63,7 @@ impl InvariantTable {
         ensures what_the_line_adds_or_its_fault { Came result (invariants_seen self.new) (take_invariant (terms_seen terms.now) line (word_seen name.entry) n (invariants_seen self.old)) }
     {
         let formula = self.new_formula(terms, name, n)?;
-        if self.is_full() {
-            return Err(TakeFault::Refusal(LineFault {
-                wrong: Wrong::TooMany,
-                column: 1,
-            }));
-        }
+        check_room(&self.rows, MOST_INVARIANTS)?;
         let name = Name::copy_of(heap, name.bytes)?;
         self.rows.push(Invariant {
             name,
@@ -118,12 +99,14 @@ impl Parts {
                 kind,
             } => take_claim(
                 &mut self.claims,
-                protocol.rules(),
+                protocol,
                 &self.invariants,
-                number,
-                rule,
-                invariant,
-                kind,
+                CauseLine {
+                    number,
+                    rule,
+                    invariant,
+                    kind,
+                },
             ),
             Line::End => Ok(()),
             Line::Protocol { .. }
@@ -131,10 +114,7 @@ impl Parts {
             | Line::Var { .. }
             | Line::Init { .. }
             | Line::Rule { .. }
-            | Line::Set { .. } => Err(TakeFault::Refusal(LineFault {
-                wrong: Wrong::Key,
-                column: 1,
-            })),
+            | Line::Set { .. } => Err(TakeFault::Refused(Wrong::Key.at(1))),
         }
     }
 }

@@ -1,6 +1,6 @@
 // Reading a proposal file.
-ghost use Rattle.std.specs.Prelude.{◌≡◌, IfOk, OnOk};
-ghost use Rattle.layered.specs.Answers.{protocol_seen};
+ghost use Rattle.std.specs.Prelude.{◌≡◌, false, IfOk, OnOk};
+ghost use Rattle.protocol.specs.Answers.{protocol_seen};
 ghost use Rattle.proposal.specs.Answers.{proposal_seen, Parsed, Told};
 ghost use Rattle.proposal.specs.Drafts.{draft_seen};
 ghost use Rattle.proposal.specs.Lawful.{LawfulWith};
@@ -9,21 +9,21 @@ ghost use Rattle.proposal.specs.Reading.{Draft, begun, taken, ended, finished, p
 ghost use Rattle.proposal.specs.Records.{empty};
 ghost use Rattle.proposal.specs.Views.{parts_seen};
 ghost use Rattle.proposal.specs.Written.{written};
+ghost use Rattle.reading.specs.Taking.{Came};
 
 use crate::invariants::InvariantTable;
 use crate::parts::Parts;
 use crate::reader::ProposalReader;
 use crate::record::Proposal;
-use layered::record::Protocol;
+use line::following::next_line;
 use line::lines::File;
-use line::reading::{read_line, recognise};
-use line::rows::{can_follow, is_last, row_number};
+use line::rows::is_last;
 use names::Name;
-use reading::faults::{ReadFault, TakeFault};
+use protocol::record::Protocol;
+use reading::faults::{ReadFault, TakeFault, in_file};
 use reading::files::{Reader, read_file};
 use std::alloc::{AllocError, Global};
 use tables::term_table::TermTable;
-use text::faults::{LineFault, Wrong};
 
 impl Parts {
     fn empty(heap: Global) -> Parts
@@ -56,15 +56,31 @@ fn begin<'p>(heap: Global, protocol: &'p Protocol) -> Result<ProposalReader<'p>,
     ensures nothing_is_read { IfOk result (λ reader. draft_seen reader ≡ begun (protocol_seen protocol.now)) }
 {
     let mut parts = Parts::empty(heap);
-    parts.terms = protocol.terms().copy(heap)?;
+    parts.terms = protocol.term_table().copy(heap)?;
     Ok(ProposalReader {
+        heap,
         protocol,
         row: 0,
         parts,
     })
 }
 
+impl ProposalReader<'_> {
+    // One line more, the line of this number, or its fault.
+    fn take_line(&mut self, number: usize, line: &[u8]) -> Result<(), TakeFault>
+        ensures what_is_made_of_the_line { Came result (draft_seen self.new) (taken (draft_seen self.old) number line.now) }
+    {
+        let (row, line) = next_line(File::Proposal, self.row, line)?;
+        self.parts
+            .take_line(self.heap, self.protocol, number, line)?;
+        self.row = row;
+        Ok(())
+    }
+}
+
 impl Reader for ProposalReader<'_> {
+    type Fault = ReadFault;
+
     ghost State = { Draft };
 
     ghost seen = { draft_seen };
@@ -73,18 +89,11 @@ impl Reader for ProposalReader<'_> {
 
     ghost ended = { ended };
 
-    fn take(&mut self, heap: Global, number: usize, line: &[u8]) -> Result<(), TakeFault> {
-        let (key, rest) = recognise(File::Proposal, line)?;
-        if !can_follow(File::Proposal, self.row, key) {
-            return Err(TakeFault::Refusal(LineFault {
-                wrong: Wrong::Key,
-                column: 1,
-            }));
-        }
-        let line = read_line(File::Proposal, key, rest)?;
-        self.parts.take_line(heap, self.protocol, number, line)?;
-        self.row = row_number(File::Proposal, key);
-        Ok(())
+    ghost steady = { false };
+
+    fn take(&mut self, number: usize, line: &[u8]) -> Result<(), ReadFault> {
+        self.take_line(number, line)
+            .map_err(|why| in_file(number, why))
     }
 
     fn is_ended(&self) -> bool {
@@ -98,8 +107,8 @@ fn finish(heap: Global, reader: ProposalReader<'_>) -> Result<Parts, AllocError>
 {
     let ProposalReader {
         protocol,
-        row: _,
         parts,
+        ..
     } = reader;
     let Parts {
         name,
@@ -107,7 +116,7 @@ fn finish(heap: Global, reader: ProposalReader<'_>) -> Result<Parts, AllocError>
         invariants,
         claims,
     } = parts;
-    let terms = terms.behind(heap, protocol.terms().terms.len())?;
+    let terms = terms.behind(heap, protocol.terms().len())?;
     Ok(Parts {
         name,
         terms,
@@ -122,7 +131,7 @@ fn parse(heap: Global, protocol: &Protocol, bytes: &[u8]) -> Result<Proposal, Re
     ensures what_is_read_is_its_written_form { IfOk result (λ q. written (protocol_seen protocol.now) (proposal_seen q) ≡ bytes.now) }
 {
     let mut reader = begin(heap, protocol)?;
-    read_file(&mut reader, heap, bytes)?;
+    read_file(&mut reader, bytes)?;
     let parts = finish(heap, reader)?;
     Ok(Proposal { parts })
 }

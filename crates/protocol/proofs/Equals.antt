@@ -1,29 +1,27 @@
--- The tests of two assignments and of two rules decide whether they say the same.
-use Rattle.std.proofs.Common.{◌≡◌, ◌==◌, ◌&&◌, Decides, vec_items, rules, refl, ap}
-use Rattle.std.proofs.lemmas.Bool.{and_parts}
-use Rattle.std.proofs.lemmas.Bool.Decides.{Decides-eqb}
+-- The derived test of two protocols decides whether they say the same.
+use Rattle.std.proofs.Common.{◌≡◌, Decides, vec_items, ap}
+use Rattle.std.proofs.lemmas.Bool.Decides.{Decides-and, Decides-like}
 use Rattle.std.proofs.lemmas.Slice.Eq.{bytes_eq-Decides}
-use Rattle.std.specs.Cmp.Lexicographic.{pointwise}
-use Rattle.std.specs.Str.{bytes_eq}
 use Rattle.names.specs.Names.{spelled}
-use Rattle.protocol.specs.Views.{assignment_seen, rule_seen, rules_the_same, sets_the_same}
-use Rattle.protocol.specs.declared.rules.Assignment.{Assignment}
-use Rattle.protocol.specs.declared.rules.Rule.{Rule}
-use Rattle.protocol.proofs.Matching.{mapped_decides}
+use Rattle.tables.proofs.Equals.{numbers_decide, types_decide, variables_decide, terms_decide}
+use Rattle.rules.proofs.Equals.{rules_decide}
+use Rattle.protocol.specs.Answers.{protocol_seen}
+use Rattle.protocol.specs.Views.{parts_seen}
+use Rattle.protocol.specs.contracts.parts.PartsPartialEq.TheImpl as parts
+use Rattle.protocol.specs.contracts.record.ProtocolPartialEq.TheImpl as protocol
+use Rattle.protocol.specs.declared.parts.Parts.{Parts}
+use Rattle.protocol.specs.declared.record.Protocol.{Protocol}
 
-pub assignments_decide : (x y : Assignment) → Decides (sets_the_same x y) (assignment_seen x ≡ assignment_seen y)
-assignments_decide x y = search rules
+parts_decide : (x y : Parts) → Decides (parts.ghosts.eq x y) (parts_seen x ≡ parts_seen y)
+parts_decide x y =
+    Decides-like _
+    (λ p i. record { name = p.0 i; types = p.1.0 i; variables = p.1.1.0 i; terms = p.1.1.1.0 i; initial = p.1.1.1.1.0 i; rules = p.1.1.1.1.1 i })
+    (λ e. (ap (λ t. t.name) e, (ap (λ t. t.types) e, (ap (λ t. t.variables) e, (ap (λ t. t.terms) e, (ap (λ t. t.initial) e, ap (λ t. t.rules) e))))))
+    (Decides-and _ _ (bytes_eq-Decides (spelled x.name) (spelled y.name))
+    (Decides-and _ _ (types_decide x.types y.types)
+    (Decides-and _ _ (variables_decide x.variables y.variables)
+    (Decides-and _ _ (terms_decide x.terms y.terms)
+    (Decides-and _ _ (numbers_decide (vec_items x.initial) (vec_items y.initial)) (rules_decide x.rules y.rules))))))
 
-pub rules_decide : (x y : Rule) → Decides (rules_the_same x y) (rule_seen x ≡ rule_seen y)
-rules_decide x y =
-    let xs = vec_items x.sets in
-    let ys = vec_items y.sets in
-    let named = bytes_eq-Decides (spelled x.name) (spelled y.name) in
-    let guarded = Decides-eqb x.guard y.guard in
-    let sets = mapped_decides assignment_seen sets_the_same assignments_decide xs ys (pointwise sets_the_same xs ys) refl in (
-      λ t.
-          let outer = and_parts (bytes_eq (spelled x.name) (spelled y.name)) ((x.guard == y.guard) && pointwise sets_the_same xs ys) t in
-          let inner = and_parts (x.guard == y.guard) (pointwise sets_the_same xs ys) outer.1 in
-          λ i. record { name = named.0 outer.0 i; guard = guarded.0 inner.0 i; sets = sets.0 inner.1 i },
-      λ e. λ i. named.1 (ap (λ r. r.name) e) i && (guarded.1 (ap (λ r. r.guard) e) i && sets.1 (ap (λ r. r.sets) e) i),
-    )
+pub protocols_decide : (x y : Protocol) → Decides (protocol.ghosts.eq x y) (protocol_seen x ≡ protocol_seen y)
+protocols_decide x y = parts_decide x.parts y.parts

@@ -1,77 +1,28 @@
 -- What is lawful before a `type` or a `var` line is so after it.
-use Rattle.std.proofs.Common.{◌≡◌, ℕ, zero, suc, ◌+◌, ◌*◌, ◌^◌, ◌<◌, ◌≤◌, true, false, eqb, ltb, ◌⊎◌, List, [], ◌∷◌, ◌++◌, map, length, get_or, is_some, Some, None, Ok, Option, unwrap_or, sym, refl, ap, ◌∙◌, subst, inl, inr, ⊎_elim, mul_assoc, one-mul, mul-one, arith, lit≤, MatchOption}
+use Rattle.std.proofs.Common.{◌≡◌, ℕ, zero, suc, ◌+◌, ◌*◌, ◌^◌, ◌<◌, ◌≤◌, true, eqb, List, [], ◌∷◌, ◌++◌, map, length, get_or, None, Ok, sym, refl, ap, ◌∙◌, subst, mul_assoc, one-mul, mul-one, arith, lit≤}
 use Rattle.std.proofs.ByRecursion.{has_get_or}
-use Rattle.std.proofs.lemmas.List.{map-id, length-map, length_push, get_or_append_left, get_or_push, get_or-map, map_push}
-use Rattle.std.proofs.lemmas.Bool.{ltb-false, leb-false, cases_lt, cond_both, not-false, true≢false, false≢true}
-use Rattle.names.proofs.Places.{told}
+use Rattle.std.proofs.lemmas.List.{length-map, length_push, get_or-map, map_push}
+use Rattle.std.proofs.lemmas.Bool.{ltb-false, leb-false, cond_both, not-false}
 use Rattle.names.specs.Names.{place_in}
 use Rattle.words.proofs.Repeated.{all_differ}
-use Rattle.text.specs.Faults.{fault}
 use Rattle.words.specs.Repeats.{repeat_in}
 use Rattle.words.specs.Words.{WordV, words, lengthened, is_name}
-use Rattle.text.specs.declared.faults.Wrong.TheVariants as wrong
-use Rattle.protocol.specs.Lawful.{Names, LawfulTypes, LawfulVariables, product}
-use Rattle.protocol.specs.Records.{TypesV, VariablesV, empty}
-use Rattle.protocol.specs.Taking.{used, unknown, full, repeated, value_words, number_in, type_taken, variable_taken}
-use Rattle.protocol.proofs.Keeps.{unless_ok}
-
-no_names : Names []
-no_names = record { each = λ i inside. absurd (omega arith); once = λ i j inside. absurd (omega arith) }
+use Rattle.tables.proofs.Answered.{unless_ok}
+use Rattle.tables.proofs.LineLaws.{ValuesNamed}
+use Rattle.tables.proofs.Named.{no_names, none_from, placed, some_inside, each_push, names_push}
+use Rattle.tables.specs.Lawful.{Names, LawfulTypes, LawfulVariables, product}
+use Rattle.tables.specs.Records.{TypesV, VariablesV, no_types, no_variables}
+use Rattle.tables.specs.Taking.{number_in, value_words}
+use Rattle.protocol.specs.Taking.{type_taken, variable_taken, type_tests}
+use Rattle.protocol.specs.VariableTests.{variable_tests}
 
 -- Where nothing is declared, all is lawful.
-pub lawful_no_types : LawfulTypes empty.types
+pub lawful_no_types : LawfulTypes (no_types)
 lawful_no_types = record { few = omega arith; named = no_names; all_valued = refl; values = λ i inside. absurd (omega arith); sizes = refl }
 
-pub lawful_no_variables : (t : TypesV) → LawfulVariables t empty.variables
+pub lawful_no_variables : (t : TypesV) → LawfulVariables t (no_variables)
 lawful_no_variables t =
     record { few = omega arith; named = no_names; all_typed = refl; kinds = λ i inside. absurd (omega arith); states = refl; few_states = lit≤ tt }
-
-none_from : {A : Type 0} (o : Option A) → is_some o ≡ false → o ≡ None
-none_from None is = refl
-none_from (Some x) is = absurd (true≢false is)
-
--- what a place says of the names: with no place none of them is the name, and a place is one of theirs
-abbrev Placed : List (List ℕ) → List ℕ → Option ℕ → Type 0
-Placed names name o = MatchOption o ((k : ℕ) → k < length names → get_or names k [] ≡ name → ⊥) (λ i. (i < length names) × (get_or names i [] ≡ name))
-
-placed : (names : List (List ℕ)) (name : List ℕ) → Placed names name (place_in names name)
-placed names name =
-    subst
-    (λ ns. MatchOption (place_in ns name) ((k : ℕ) → k < length names → get_or ns k [] ≡ name → ⊥) (λ i. (i < length names) × (get_or ns i [] ≡ name)))
-    (map-id names)
-    (told (λ n. n) names name (place_in (map (λ n. n) names) name) refl)
-
-some_inside : (names : List (List ℕ)) (name : List ℕ) (o : Option ℕ) → Placed names name o → is_some o ≡ true → unwrap_or o 0 < length names
-some_inside names name None so is = absurd (false≢true is)
-some_inside names name (Some i) so is = so.0
-
--- a place in a list with one more is one of the old ones or the last
-split : {X : Type 0} (xs : List X) (y : X) (i : ℕ) → i < length (xs ++ y ∷ []) → (i < length xs) ⊎ (length xs ≡ i)
-split xs y i inside = ⊎_elim (λ lt. inl lt) (λ ge. inr (omega (arith, length_push xs y))) (cases_lt i (length xs))
-
--- what holds of each and of one more holds of each then
-each_push : {X : Type 0} (P : X → Type 0) (xs : List X) (y d : X) → ((i : ℕ) → i < length xs → P (get_or xs i d)) → P y → (i : ℕ) → i < length (xs ++ y ∷ []) → P (get_or (xs ++ y ∷ []) i d)
-each_push P xs y d each last i inside =
-    ⊎_elim
-    (λ lt. subst P (sym (get_or_append_left xs (y ∷ []) d i lt)) (each i lt))
-    (λ is. subst P (sym (get_or_push xs y d i is)) last)
-    (split xs y i inside)
-
-module _ (names : List (List ℕ)) (n : List ℕ) (named : Names names) (absent : (k : ℕ) → k < length names → get_or names k [] ≡ n → ⊥) where
-  both_push : (i j : ℕ) → (i < length names) ⊎ (length names ≡ i) → (j < length names) ⊎ (length names ≡ j) → get_or (names ++ n ∷ []) i [] ≡ get_or (names ++ n ∷ []) j [] → i ≡ j
-  both_push i j (inl a) (inl b) same = named.once i j a b (sym (get_or_append_left names (n ∷ []) [] i a) ∙ same ∙ get_or_append_left names (n ∷ []) [] j b)
-  both_push i j (inl a) (inr b) same = absurd (absent i a (sym (get_or_append_left names (n ∷ []) [] i a) ∙ same ∙ get_or_push names n [] j b))
-  both_push i j (inr a) (inl b) same = absurd (absent j b (sym (get_or_append_left names (n ∷ []) [] j b) ∙ sym same ∙ get_or_push names n [] i a))
-  both_push i j (inr a) (inr b) same = omega arith
-
--- A new name among names.
-pub names_push : (names : List (List ℕ)) (n : List ℕ) → Names names → is_name n ≡ true → place_in names n ≡ None → Names (names ++ n ∷ [])
-names_push names n named good new =
-    let absent = subst (Placed names n) new (placed names n) in
-    record {
-      each = each_push (λ x. is_name x ≡ true) names n [] named.each good;
-      once = λ i j in-i in-j. both_push names n named absent i j (split names n i in-i) (split names n j in-j);
-    }
 
 -- each word begins behind the one before it, and the first at `c` or later
 abbrev Rising : ℕ → List WordV → Type 0
@@ -113,11 +64,6 @@ one_word ws rises none i j in-i in-j same =
     let alike = sym (get_or-map bytes ws i d [] in-i) ∙ same ∙ get_or-map bytes ws j d [] in-j in
     one_column 1 ws d i j rises in-i in-j (all_differ ws none (get_or ws i d) (get_or ws j d) (has_get_or ws i d in-i) (has_get_or ws j d in-j) alike)
 
--- The values that a `type` line was read with: at least two, all of them names.
-pub record ValuesNamed (values : WordV) : Type 0 where
-  pub two : 2 ≤ length (value_words values)
-  pub each : (i : ℕ) → i < length (value_words values) → is_name (get_or (map (λ w. w.bytes) (value_words values)) i []) ≡ true
-
 values_names : (values : WordV) → ValuesNamed values → repeat_in (value_words values) (value_words values) ≡ None → Names (map (λ w. w.bytes) (value_words values))
 values_names values named none =
     let ws = value_words values in
@@ -133,7 +79,7 @@ pub type_lawful : (name values : WordV) (s after : TypesV) → LawfulTypes s →
 type_lawful name values s after lawful good named is =
     let ws = value_words values in
     let row = map (λ w. w.bytes) ws in
-    let out = unless_ok (used s.names name ∷ repeated values ∷ full 8 s.names ∷ (ltb 16 (length ws), fault wrong.TooMany 1) ∷ []) _ after is in
+    let out = unless_ok (type_tests s.names name values) _ after is in
     let room : length s.names < 8 = leb-false 8 (length s.names) out.1.1.1.0 in
     let short : length ws ≤ 16 = ltb-false 16 (length ws) out.1.1.1.1.0 in
     let long : length row ≡ length ws = length-map ws (λ w. w.bytes) in
@@ -147,7 +93,7 @@ type_lawful name values s after lawful good named is =
       sizes = ap (λ sizes. sizes ++ length ws ∷ []) lawful.sizes ∙ ap (λ n. map length s.values ++ n ∷ []) (sym long) ∙ sym (map_push length s.values row);
     })
 
-product_push : (sizes kinds : List ℕ) (k : ℕ) → product sizes (kinds ++ k ∷ []) ≡ product sizes kinds * get_or sizes k 0
+pub product_push : (sizes kinds : List ℕ) (k : ℕ) → product sizes (kinds ++ k ∷ []) ≡ product sizes kinds * get_or sizes k 0
 product_push sizes [] k = mul-one (get_or sizes k 0) ∙ sym (one-mul (get_or sizes k 0))
 product_push sizes (j ∷ kinds) k = ap (λ n. get_or sizes j 0 * n) (product_push sizes kinds k) ∙ sym (mul_assoc (get_or sizes j 0) (product sizes kinds) (get_or sizes k 0))
 
@@ -157,7 +103,7 @@ variable_lawful t name of s after types lawful good is =
     let kind = number_in t.names of in
     let size = get_or t.sizes kind 0 in
     let states = s.states * size in
-    let out = unless_ok (used s.names name ∷ unknown t.names of ∷ full 32 s.names ∷ (ltb (2 ^ 40) states, fault wrong.TooManyStates 1) ∷ []) _ after is in
+    let out = unless_ok (variable_tests t name of s) _ after is in
     let room : length s.names < 32 = leb-false 32 (length s.names) out.1.1.1.0 in
     let known : kind < length t.names = some_inside t.names of.bytes (place_in t.names of.bytes) (placed t.names of.bytes) (not-false _ out.1.1.0) in
     subst (λ v. LawfulVariables t v) out.0

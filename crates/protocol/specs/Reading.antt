@@ -1,21 +1,23 @@
 -- Reading a protocol file: what each line adds, in its turn, and the record that is left at the end.
-use Rattle.std.specs.Prelude.{ℕ, Bool, cond, List, [], ◌∷◌, length, Some, None, Ok, Err, Option, Result, ◌==◌, nat_lt}
+use Rattle.std.specs.Prelude.{ℕ, Bool, cond, List, [], ◌∷◌, length, Ok, Err, Result, ◌==◌, nat_lt}
+use Rattle.std.specs.Result.{result_map_both}
 use Rattle.text.specs.Faults.{fault}
-use Rattle.text.specs.Lines.{split}
-use Rattle.text.specs.Walk.{Outcome, walk_through}
-use Rattle.words.specs.Words.{WordV, bind}
 use Rattle.text.specs.declared.faults.FileFault.{FileFault}
-use Rattle.text.specs.declared.faults.FileFault.TheVariants as file_fault
 use Rattle.text.specs.declared.faults.LineFault.{LineFault}
-use Rattle.text.specs.declared.faults.Placed.{Placed}
 use Rattle.text.specs.declared.faults.Wrong.TheVariants as wrong
+use Rattle.words.specs.Words.{WordV, bind}
 use Rattle.line.specs.Lines.{LineV}
 use Rattle.line.specs.Lines as line
 use Rattle.line.specs.Reading.{read, recognised}
+use Rattle.line.specs.Rows.{row_of, last_row, may_follow}
 use Rattle.line.specs.declared.lines.File.TheVariants as file
-use Rattle.protocol.specs.Records.{ProtocolV, TypesV, VariablesV, TermsV, RuleV, empty}
-use Rattle.protocol.specs.Rows.{row_of, may_follow}
-use Rattle.protocol.specs.Taking.{unless, type_taken, variable_taken, term_taken, initial_taken, rule_taken, assignment_taken}
+use Rattle.reading.specs.Files.{read_through}
+use Rattle.rules.specs.Records.{RuleV}
+use Rattle.rules.specs.Taking.{rule_taken, assignment_taken}
+use Rattle.tables.specs.Records.{TypesV, VariablesV, TermsV}
+use Rattle.tables.specs.Taking.{unless, term_taken}
+use Rattle.protocol.specs.Records.{ProtocolV, empty}
+use Rattle.protocol.specs.Taking.{type_taken, variable_taken, initial_taken}
 
 -- The protocol with one part changed.
 abbrev pub with_name : ProtocolV → List ℕ → ProtocolV
@@ -63,10 +65,10 @@ pub record Draft : Type 0 where
 abbrev pub taken : Draft → List ℕ → Result Draft LineFault
 taken draft bytes =
     bind (recognised file.Protocol bytes) (λ p.
-    cond (may_follow draft.row p.0)
+    cond (may_follow file.Protocol draft.row p.0)
     (bind (read file.Protocol p.0 p.1) (λ l.
     bind (line_taken l draft.made) (λ made.
-    Ok (record { row = row_of p.0; made = made }))))
+    Ok (record { row = row_of file.Protocol p.0; made = made }))))
     (Err (fault wrong.Key 1)))
 
 -- Before the first line, and after the last.
@@ -74,16 +76,8 @@ abbrev pub begun : Draft
 begun = record { row = 0; made = empty }
 
 abbrev pub ended : Draft → Bool
-ended draft = draft.row == 7
+ended draft = draft.row == last_row file.Protocol
 
-abbrev pub gone_through : List ℕ → Outcome Draft
-gone_through text = walk_through taken ended begun 1 (split text)
-
--- The protocol that a file says, or the file's fault.
-abbrev pub settled : Outcome Draft → Option Placed → Result ProtocolV FileFault
-settled o None = Ok o.state.made
-settled o (Some placed) = Err (file_fault.Line placed)
-
+-- The protocol that a file says, or the file's fault: what its lines made, one after the other.
 abbrev pub protocol_of : List ℕ → Result ProtocolV FileFault
-protocol_of text =
-    cond (nat_lt 65536 (length text)) (Err file_fault.TooLong) (settled (gone_through text) (gone_through text).fault)
+protocol_of text = result_map_both (λ draft. draft.made) (λ fault. fault) (read_through (λ draft number line. taken draft line) ended begun text)

@@ -1,19 +1,18 @@
--- What a line asks of the protocol that it is added to.
-use Rattle.std.specs.Prelude.{◌<◌, ◌≤◌, length}
+-- What taking a line asks of it.
+use Rattle.std.specs.Prelude.{◌+◌, ◌^◌, ◌≤◌, length}
 use Rattle.line.specs.Lines.{LineV}
 use Rattle.line.specs.Lines as line
-use Rattle.protocol.specs.Records.{ProtocolV}
 
--- The values of a `type` line begin at a column of a line, and a `set` line has a rule above it.
-abbrev pub Stands : LineV → ProtocolV → Type 0
-Stands (line.Protocol name) p = Unit {0}
-Stands (line.«Type» name values) p = values.column ≤ 65536
-Stands (line.Var name of) p = Unit {0}
-Stands (line.Term form) p = Unit {0}
-Stands (line.Init formula) p = Unit {0}
-Stands (line.Rule name guard) p = Unit {0}
-Stands (line.Set variable term) p = 0 < length p.rules
-Stands line.End p = Unit {0}
-Stands (line.Proposal name) p = Unit {0}
-Stands (line.Inv name formula) p = Unit {0}
-Stands (line.Cause rule invariant kind) p = Unit {0}
+-- The values of a `type` line end within a line that memory can hold, so that their columns can be counted.
+abbrev pub WithinALine : LineV → Type 0
+WithinALine (line.Protocol name) = Unit {0}
+WithinALine (line.«Type» name values) = values.column + length values.bytes ≤ 2 ^ 63 + 6
+WithinALine (line.Var name of) = Unit {0}
+WithinALine (line.Term form) = Unit {0}
+WithinALine (line.Init formula) = Unit {0}
+WithinALine (line.Rule name guard) = Unit {0}
+WithinALine (line.Set variable term) = Unit {0}
+WithinALine line.End = Unit {0}
+WithinALine (line.Proposal name) = Unit {0}
+WithinALine (line.Inv name formula) = Unit {0}
+WithinALine (line.Cause rule invariant kind) = Unit {0}

@@ -1,23 +1,39 @@
 // What each line adds to the parts of a protocol.
 ghost use Rattle.std.specs.Prelude.{◌≡◌};
-ghost use Rattle.line.specs.Lines.{line_seen, Protocol as name_line};
+ghost use Rattle.line.specs.Lines.{line_seen};
+ghost use Rattle.names.specs.Names.{spelled};
 ghost use Rattle.words.specs.Words.{word_seen};
-ghost use Rattle.protocol.specs.Limits.{TypesFit, VariablesFit};
-ghost use Rattle.protocol.specs.Reading.{line_taken};
-ghost use Rattle.protocol.specs.Ready.{Stands};
+ghost use Rattle.reading.specs.Taking.{Came};
+ghost use Rattle.protocol.specs.Reading.{line_taken, name_taken};
+ghost use Rattle.protocol.specs.Ready.{WithinALine};
 ghost use Rattle.protocol.specs.Records.{empty};
-ghost use Rattle.protocol.specs.Views.{parts_seen, Came};
+ghost use Rattle.protocol.specs.Views.{parts_seen};
 
-use crate::faults::TakeFault;
 use crate::initial::take_initial;
 use crate::parts::Parts;
-use crate::rules::RuleTable;
-use crate::tables::{TermTable, TypeTable, VariableTable};
+use crate::types::{TypeLine, take_type};
+use crate::variables::take_variable;
 use line::lines::Line;
 use names::Name;
+use reading::faults::TakeFault;
+use rules::table::RuleTable;
 use std::alloc::Global;
+use tables::term_table::TermTable;
+use tables::types::TypeTable;
+use tables::variables::VariableTable;
 use text::faults::{LineFault, Wrong};
 use words::Word;
+
+// A `protocol` line: the name, or the fault that there is one.
+fn take_name(name: &mut Name, heap: Global, word: Word<'_>) -> Result<(), TakeFault>
+    ensures the_name_or_that_there_is_one { Came result (spelled name.new) (name_taken (word_seen word.entry) (spelled name.old)) }
+{
+    if !name.as_bytes().is_empty() {
+        return Err(TakeFault::Refused(Wrong::TooMany.at(1)));
+    }
+    *name = Name::copy_of(heap, word.bytes)?;
+    Ok(())
+}
 
 impl Parts {
     // No name and no lines.
@@ -26,51 +42,29 @@ impl Parts {
     {
         Parts {
             name: Name::empty(heap),
-            types: TypeTable {
-                names: Vec::new(heap),
-                values: Vec::new(heap),
-                sizes: Vec::new(heap),
-            },
-            variables: VariableTable {
-                names: Vec::new(heap),
-                kinds: Vec::new(heap),
-                states: 1,
-            },
-            terms: TermTable {
-                terms: Vec::new(heap),
-                sorts: Vec::new(heap),
-            },
+            types: TypeTable::empty(heap),
+            variables: VariableTable::empty(heap),
+            terms: TermTable::empty(heap),
             initial: Vec::new(heap),
-            rules: RuleTable {
-                rules: Vec::new(heap),
-            },
+            rules: RuleTable::empty(heap),
         }
-    }
-
-    fn take_name(&mut self, heap: Global, name: Word<'_>) -> Result<(), TakeFault>
-        ensures the_name_or_that_there_is_one { Came result (parts_seen self.new) (line_taken (name_line (word_seen name.entry)) (parts_seen self.old)) }
-    {
-        if !self.name.as_bytes().is_empty() {
-            return Err(TakeFault::Refusal(LineFault {
-                wrong: Wrong::TooMany,
-                column: 1,
-            }));
-        }
-        self.name = Name::copy_of(heap, name.bytes)?;
-        Ok(())
     }
 
     // One line more, or its fault.
     pub(crate) fn take_line(&mut self, heap: Global, line: Line<'_>) -> Result<(), TakeFault>
-        requires the_types_fit { TypesFit (parts_seen self.old).types }
-        requires the_variables_fit { VariablesFit (parts_seen self.old).variables }
-        requires it_may_stand_here { Stands (line_seen line) (parts_seen self.old) }
+        requires within_a_line { WithinALine (line_seen line) }
         ensures what_the_line_adds_or_its_fault { Came result (parts_seen self.new) (line_taken (line_seen line.entry) (parts_seen self.old)) }
     {
         match line {
-            Line::Protocol { name } => self.take_name(heap, name),
-            Line::Type { name, values } => self.types.take(heap, name, values),
-            Line::Var { name, of } => self.variables.take(heap, &self.types, name, of),
+            Line::Protocol { name } => take_name(&mut self.name, heap, name),
+            Line::Type { name, values } => take_type(
+                &mut self.types,
+                heap,
+                TypeLine { name, values },
+            ),
+            Line::Var { name, of } => {
+                take_variable(&mut self.variables, heap, &self.types, name, of)
+            }
             Line::Term { form } => self.terms.take(&self.types, &self.variables, form),
             Line::Init { formula } => take_initial(&mut self.initial, &self.terms, formula),
             Line::Rule { name, guard } => self.rules.take_rule(heap, &self.terms, name, guard),
@@ -79,10 +73,7 @@ impl Parts {
                 .take_set(&self.variables, &self.terms, variable, term),
             Line::End => Ok(()),
             Line::Proposal { .. } | Line::Inv { .. } | Line::Cause { .. } => {
-                Err(TakeFault::Refusal(LineFault {
-                    wrong: Wrong::Key,
-                    column: 1,
-                }))
+                Err(TakeFault::Refused(Wrong::Key.at(1)))
             }
         }
     }

@@ -1,9 +1,11 @@
-// The parts of a protocol, and what each line adds to them.
-use crate::rules::RuleTable;
-use crate::tables::{TermTable, TypeTable, VariableTable};
+// The parts of a protocol.
 use names::Name;
+use rules::table::RuleTable;
+use tables::term_table::TermTable;
+use tables::types::TypeTable;
+use tables::variables::VariableTable;
 
-#[derive(Drop)]
+#[derive(Drop, PartialEq)]
 pub struct Parts {
     pub name: Name,
     pub types: TypeTable,

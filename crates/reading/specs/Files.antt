@@ -1,15 +1,11 @@
 -- Reading a whole file: its length, then line by line to its end or to its first fault.
-use Rattle.std.specs.Prelude.{◌≡◌, ℕ, Bool, cond, List, length, Some, None, Ok, Err, Option, Result, nat_lt}
+use Rattle.std.specs.Prelude.{◌≡◌, ℕ, Bool, cond, List, length, Some, None, Ok, Err, Option, Result, IfErr, IfSome, nat_lt}
 use Rattle.text.specs.Lines.{split}
 use Rattle.reading.specs.Walk.{Outcome, walk_through}
 use Rattle.text.specs.declared.faults.FileFault.{FileFault}
 use Rattle.text.specs.declared.faults.FileFault.TheVariants.{TooLong, Line}
 use Rattle.text.specs.declared.faults.LineFault.{LineFault}
 use Rattle.text.specs.declared.faults.Placed.{Placed}
-use Rattle.reading.specs.declared.faults.ReadFault.{ReadFault}
-use Rattle.reading.specs.declared.faults.ReadFault.TheVariants.{Refused, Memory}
-use Rattle.reading.specs.declared.faults.TakeFault.{TakeFault}
-use Rattle.reading.specs.declared.faults.TakeFault.TheVariants as take
 
 -- What going through the lines came to: what was made of all of them, or the fault of the first that is at fault.
 abbrev pub told : {S : Type 0} → S → Option Placed → Result S FileFault
@@ -24,15 +20,21 @@ whole o = told o.state o.fault
 abbrev pub read_through : {S : Type 0} → (S → ℕ → List ℕ → Result S LineFault) → (S → Bool) → S → List ℕ → Result S FileFault
 read_through step ended begun text = cond (nat_lt 65536 (length text)) (Err TooLong) (whole (walk_through step ended begun 1 (split text)))
 
--- What taking a line came to, with the number of that line at its fault.
-abbrev pub placed_take : ℕ → Result (Unit {0}) TakeFault → Result (Unit {0}) ReadFault
-placed_take line (Ok u) = Ok u
-placed_take line (Err (take.Refusal fault)) = Err (Refused (Line (record { line = line; fault = fault })))
-placed_take line (Err take.Memory) = Err Memory
+-- What was made of the lines of a file up to its end or its first fault.
+abbrev pub left_by : {S : Type 0} → (S → ℕ → List ℕ → Result S LineFault) → (S → Bool) → S → List ℕ → S
+left_by step ended begun text = cond (nat_lt 65536 (length text)) begun ((walk_through step ended begun 1 (split text)).state)
 
--- What a call that reads a file came to: the state as it left it, or the file's fault. For want of memory nothing is said
--- of the state: it is let go.
-abbrev pub Went : {S : Type 0} → Result (Unit {0}) ReadFault → S → Result S FileFault → Type 0
-Went (Ok u) after said = said ≡ Ok after
-Went (Err (Refused fault)) after said = said ≡ Err fault
-Went (Err Memory) after said = Unit {0}
+-- What is made of the line of a number, with that number at its fault.
+abbrev pub in_line : {S : Type 0} → ℕ → Result S LineFault → Result S FileFault
+in_line number (Ok made) = Ok made
+in_line number (Err fault) = Err (Line (record { line = number; fault = fault }))
+
+-- What a call of a reader came to: the state as it left it, or the fault of the file, where `file_fault` tells one. Of
+-- what else kept it from reading, such as want of memory, nothing is said: the state is let go.
+abbrev pub Went : {S E : Type 0} → (E → Option FileFault) → Result (Unit {0}) E → S → Result S FileFault → Type 0
+Went file_fault (Ok u) after said = said ≡ Ok after
+Went file_fault (Err e) after said = IfSome (file_fault e) (λ fault. said ≡ Err fault)
+
+-- At a fault of the file the state is `left`.
+abbrev pub Left : {S E : Type 0} → (E → Option FileFault) → Result (Unit {0}) E → S → S → Type 0
+Left file_fault answer after left = IfErr answer (λ e. IfSome (file_fault e) (λ _. after ≡ left))

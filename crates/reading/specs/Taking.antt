@@ -1,12 +1,13 @@
--- What a call that takes a line comes to.
-use Rattle.std.specs.Prelude.{◌≡◌, Ok, Err, Result}
+-- What a call that takes a line comes to: `Came` says it of the state and the fault.
+use Rattle.std.specs.Prelude.{ℕ}
+pub use Rattle.failures.specs.Answers.{Came}
+use Rattle.failures.specs.declared.Failure.{Failure}
+use Rattle.failures.specs.declared.Failure.TheVariants.{Refused, Memory}
+use Rattle.text.specs.declared.faults.FileFault.{FileFault}
+use Rattle.text.specs.declared.faults.FileFault.TheVariants.{Line}
 use Rattle.text.specs.declared.faults.LineFault.{LineFault}
-use Rattle.reading.specs.declared.faults.TakeFault.{TakeFault}
-use Rattle.reading.specs.declared.faults.TakeFault.TheVariants.{Refusal, Memory}
 
--- A call that takes a line came to what the definition says: the state as it left it, or the fault. For want of memory
--- nothing is said of the state: it is let go.
-abbrev pub Came : {V : Type 0} → Result (Unit {0}) TakeFault → V → Result V LineFault → Type 0
-Came (Ok u) after defined = defined ≡ Ok after
-Came (Err (Refusal fault)) after defined = defined ≡ Err fault
-Came (Err Memory) after defined = Unit {0}
+-- Why the file that has this line is not read.
+abbrev pub in_file : ℕ → Failure LineFault → Failure FileFault
+in_file line (Refused fault) = Refused (Line (record { line = line; fault = fault }))
+in_file line Memory = Memory

@@ -1,65 +1,48 @@
 // Why a line is not taken, and why a file is not read.
-ghost use Rattle.std.specs.Prelude.{◌≡◌};
-ghost use Rattle.reading.specs.declared.faults.TakeFault.TheVariants.{Refusal, Memory};
-ghost use Rattle.reading.specs.declared.faults.ReadFault.TheVariants.{Refused as Told, Memory as NoMemory};
-ghost use Rattle.text.specs.declared.faults.FileFault.TheVariants.{Line};
+ghost use Rattle.std.specs.Prelude.{◌≡◌, None, Option, Some};
+ghost use Rattle.std.proofs.Common.{rules};
+ghost use Rattle.reading.specs.Taking.{in_file as file_fault_of};
+ghost use Rattle.failures.specs.declared.Failure.TheVariants.{Refused, Memory};
+ghost use Rattle.text.specs.declared.faults.FileFault.{FileFault};
 
-use std::alloc::{AllocError, AllocFailed};
+use failures::Failure;
 use text::faults::{FileFault, LineFault, Placed};
 
-#[derive(Clone, Copy)]
-pub enum TakeFault {
-    // The line is at fault.
-    Refusal(LineFault),
-    // There is no memory for what it adds.
-    Memory,
+// Why a file is not read: a fault of the file, or what else can keep it from being read, such as want of memory.
+pub trait Fault: From<FileFault> {
+    // The fault of the file, where it is one.
+    ghost file_fault: { Self → Option FileFault };
+
+    // What `From` makes of a fault of the file tells that fault.
+    ghost from_file_fault: { (fault : FileFault) (e : Self) → Self.from_gives fault e → file_fault e ≡ Some fault };
 }
 
-impl From<LineFault> for TakeFault {
-    ghost from_gives = { λ fault r. r ≡ Refusal fault };
+// Where no memory is needed, nothing but a fault of the file keeps it from being read.
+impl Fault for FileFault {
+    ghost file_fault = { Some };
 
-    fn from(value: LineFault) -> TakeFault {
-        TakeFault::Refusal(value)
-    }
+    ghost from_file_fault = { Prim.search rules };
 }
 
-impl From<AllocError> for TakeFault {
-    ghost from_gives = { λ _ r. r ≡ Memory };
+// Why a line is not taken. A type of its own beside `ReadFault`, so that no fault of a line is told without the number of
+// that line.
+pub type TakeFault = Failure<LineFault>;
 
-    fn from(_value: AllocError) -> TakeFault {
-        TakeFault::Memory
-    }
+// Why a file is not read.
+pub type ReadFault = Failure<FileFault>;
+
+impl Fault for ReadFault {
+    ghost file_fault = { elim [ Refused fault ↦ Some fault | Memory ↦ None ] };
+
+    ghost from_file_fault = { Prim.search rules };
 }
 
-impl<T: Drop> From<AllocFailed<T>> for TakeFault {
-    ghost from_gives = { λ _ r. r ≡ Memory };
-
-    fn from(_value: AllocFailed<T>) -> TakeFault {
-        TakeFault::Memory
-    }
-}
-
-#[derive(Clone, Copy)]
-pub enum ReadFault {
-    // The file is at fault.
-    Refused(FileFault),
-    // There is no memory for what it says.
-    Memory,
-}
-
-// A line's own fault, with its column, inside the file's fault with its line.
-impl From<Placed> for ReadFault {
-    ghost from_gives = { λ placed r. r ≡ Told (Line placed) };
-
-    fn from(value: Placed) -> ReadFault {
-        ReadFault::Refused(FileFault::from(value))
-    }
-}
-
-impl From<AllocError> for ReadFault {
-    ghost from_gives = { λ _ r. r ≡ NoMemory };
-
-    fn from(_value: AllocError) -> ReadFault {
-        ReadFault::Memory
+// Why the file that has this line is not read.
+pub fn in_file(line: usize, why: TakeFault) -> ReadFault
+    ensures the_fault_with_its_line { result ≡ file_fault_of line why }
+{
+    match why {
+        TakeFault::Refused(fault) => ReadFault::Refused(FileFault::Line(Placed { line, fault })),
+        TakeFault::Memory => ReadFault::Memory,
     }
 }

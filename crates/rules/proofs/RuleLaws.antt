@@ -1,21 +1,23 @@
 -- What the lines of the rules add, by their tests and by the program's lists.
-use Rattle.std.proofs.Common.{◌≡◌, ℕ, ◌+◌, ◌-◌, ◌<◌, ◌≤◌, true, false, cond, not, eqb, List, [], ◌∷◌, ◌++◌, map, length, get_or, drop, set, is_some, Some, Ok, Err, vec_items, Option, Result, unwrap_or, sym, ap, ◌∙◌, arith}
+use Rattle.std.proofs.Common.{◌≡◌, ◌==◌, ◌||◌, Bool, ℕ, ◌-◌, ◌<◌, true, false, cond, leb, List, [], ◌∷◌, ◌++◌, map, length, get_or, set, is_some, Ok, vec_items, Result, sym, ap, refl, ◌∙◌, arith}
 use mathlib.Core.List.{map-map}
-use Rattle.std.proofs.lemmas.List.{at_drop_more, at_drop_all, map_push, map-set, get_or-map, length-map}
-use Rattle.std.proofs.lemmas.Bool.{cond-true, cond-false, eq-eqb, ne_eqb}
+use Rattle.std.proofs.lemmas.List.{map-set, get_or-map, length-map}
+use Rattle.std.proofs.lemmas.Bool.{cond-false, ne_eqb}
+use Rattle.std.specs.List.{list_any}
 use Rattle.names.specs.Names.{spelled, place_in}
 use Rattle.terms.specs.declared.Assignment.{Assignment}
+use Rattle.terms.specs.declared.Sort.{Sort}
 use Rattle.text.specs.Faults.{fault}
 use Rattle.text.specs.declared.faults.LineFault.{LineFault}
 use Rattle.text.specs.declared.faults.Wrong.TheVariants as wrong
-use Rattle.words.specs.Words.{WordV}
+use Rattle.words.specs.Words.{WordV, bind}
 use Rattle.words.specs.declared.Number.{Number}
 use Rattle.tables.proofs.Answered.{unless_ok, passed_on}
 use Rattle.tables.specs.Records.{VariablesV, TermsV}
-use Rattle.tables.specs.Taking.{unless, number_in}
+use Rattle.tables.specs.Taking.{unless, number_in, formula_tests, full}
 use Rattle.rules.specs.Records.{RuleV}
-use Rattle.rules.specs.RuleTests.{rule_tests, set_tests, set_line_tests, set_tested, more_sets, with_set}
-use Rattle.rules.specs.Taking.{is_set, rule_taken, assignment_taken, no_rule, last_rule}
+use Rattle.rules.specs.RuleTests.{rule_tests, set_tests_below, set_line_tests, assignment_of, set_tested, more_sets, with_set}
+use Rattle.rules.specs.Taking.{is_set, assignment_taken, no_rule, last_rule}
 use Rattle.rules.specs.Views.{rule_seen}
 use Rattle.rules.specs.declared.table.Rule.{Rule}
 
@@ -23,32 +25,31 @@ use Rattle.rules.specs.declared.table.Rule.{Rule}
 pub same_place : (rules : List Rule) (name : List ℕ) → place_in (map (λ r. spelled r.name) rules) name ≡ place_in (map (λ s. s.name) (map rule_seen rules)) name
 same_place rules name = ap (λ names. place_in names name) (sym (map-map (λ s. s.name) rule_seen rules))
 
-abbrev no_set : Assignment
-no_set = record { variable = 0; term = 0 }
+-- the variable of one of the assignments
+or_from_cond : (b r : Bool) → cond b true r ≡ (b || r)
+or_from_cond true r = refl
+or_from_cond false r = refl
 
--- a loop that looks for a variable among the assignments, by those that are left
-module _ (variable : ℕ) (sets : List Assignment) (i : ℕ) (so_far : is_set variable sets ≡ is_set variable (drop i sets)) where
-  by_next : i < length sets → is_set variable sets ≡ cond (eqb (get_or sets i no_set).variable variable) true (is_set variable (drop (i + 1) sets))
-  by_next inside = so_far ∙ at_drop_more (is_set variable) sets i no_set inside
+pub set_is_any : (variable : ℕ) (sets : List Assignment) → is_set variable sets ≡ list_any (λ a. a.variable == variable) sets
+set_is_any variable [] = refl
+set_is_any variable (a ∷ sets) = or_from_cond (a.variable == variable) (is_set variable sets) ∙ ap (λ r. (a.variable == variable) || r) (set_is_any variable sets)
 
-  pub set_here : i < length sets → (get_or sets i no_set).variable ≡ variable → true ≡ is_set variable sets
-  set_here inside is = sym (by_next inside ∙ cond-true _ _ _ (eq-eqb _ _ is))
+-- an answer once there is room for it
+room_first : (none : Bool) (f : LineFault) (x : ℕ) → bind {A = Unit {0}} (unless ((none, f) ∷ []) tt) (λ _. Ok x) ≡ unless ((none, f) ∷ []) x
+room_first true f x = refl
+room_first false f x = refl
 
-  pub set_later : i < length sets → ((get_or sets i no_set).variable ≡ variable → ⊥) → is_set variable sets ≡ is_set variable (drop (i + 1) sets)
-  set_later inside other = by_next inside ∙ cond-false _ _ _ (ne_eqb _ _ other)
-
-  pub set_nowhere : length sets ≤ i → false ≡ is_set variable sets
-  set_nowhere past = sym (so_far ∙ at_drop_all (is_set variable) sets i past)
-
--- a `rule` line that passes its tests adds its rule
-pub rule_added : (terms : TermsV) (name : WordV) (n : Number) (rules after : List Rule) (rule : Rule) (guard : ℕ) → Ok guard ≡ unless (rule_tests terms.sorts name n (map rule_seen rules)) n.value → after ≡ rules ++ rule ∷ [] → spelled rule.name ≡ name.bytes → rule.guard ≡ guard → vec_items rule.sets ≡ [] → rule_taken terms name n (map rule_seen rules) ≡ Ok (map rule_seen after)
-rule_added terms name n rules after rule guard ok added named guarded empty =
-    let tests = rule_tests terms.sorts name n (map rule_seen rules) in
-    let same = (unless_ok tests n.value guard (sym ok)).0 in
-    let is : record { name = name.bytes; guard = n.value; sets = [] } ≡ rule_seen rule = cc in
-    passed_on tests [] n.value guard _ ok
-    ∙ ap (λ r. Ok (map rule_seen rules ++ r ∷ [])) is
-    ∙ ap Ok (sym (map_push rule_seen rules rule) ∙ ap (map rule_seen) (sym added))
+-- the tests of a `rule` line of a new name and a formula leave the number of the rules
+pub rule_tested : (sorts : List Sort) (name : WordV) (n : Number) (rules : List Rule) → is_some (place_in (map (λ r. spelled r.name) rules) name.bytes) ≡ false → (guard : ℕ) → Ok guard ≡ unless (formula_tests sorts n) n.value
+    → (room : Result (Unit {0}) LineFault) → room ≡ unless (full 64 rules ∷ []) tt → bind room (λ _. Ok guard) ≡ unless (rule_tests sorts name n (map rule_seen rules)) n.value
+rule_tested sorts name n rules new guard formula room few =
+    let count = full 64 (map rule_seen rules) ∷ [] in
+    ap (λ r. bind r (λ _. Ok guard)) few
+    ∙ room_first (leb 64 (length rules)) (fault wrong.TooMany 1) guard
+    ∙ ap (λ k. unless ((leb 64 k, fault wrong.TooMany 1) ∷ []) guard) (sym (length-map rules rule_seen))
+    ∙ ap (λ g. unless count g) (sym (unless_ok (formula_tests sorts n) n.value guard (sym formula)).0)
+    ∙ sym (passed_on (formula_tests sorts n) count n.value guard n.value formula)
+    ∙ sym (cond-false _ _ _ (ap is_some (sym (same_place rules name.bytes)) ∙ new))
 
 -- the rule that stands last, and the rules after one assignment more for it
 module _ (rules : List Rule) (n : ℕ) (rule : Rule) (all : n ≡ length rules) (some : 0 < n) (there : rule ≡ get_or rules (n - 1) rule) where
@@ -67,23 +68,12 @@ module _ (rules : List Rule) (n : ℕ) (rule : Rule) (all : n ≡ length rules) 
       ∙ ap (λ r. set (map rule_seen rules) (n - 1) r) (ap (more_sets a) last_is ∙ is)
       ∙ sym (map-set rule_seen rules (n - 1) new)
 
--- the tests of a `set` line: no rule above it, a name of nothing, and the others
+-- the tests of a `set` line, below the rule that stands last
 module _ (variables : VariablesV) (terms : TermsV) (name : WordV) (n : Number) (s : List RuleV) where
-  pub none_above : length s ≡ 0 → Err (fault wrong.Key 1) ≡ set_tested variables terms name n s
-  none_above none = sym (cond-true _ _ _ (eq-eqb (length s) 0 none))
-
-  pub one_above : 0 < length s → (o : Option ℕ) → o ≡ place_in variables.names name.bytes
-      → set_tested variables terms name n s ≡ unless ((not (is_some o), fault wrong.Unknown name.column) ∷ set_tests (get_or variables.kinds (unwrap_or o 0) 0) terms.sorts (unwrap_or o 0) name.column n (last_rule s).sets) (record { variable = unwrap_or o 0; term = n.value })
-  one_above some o named =
-      cond-false _ _ _ (ne_eqb (length s) 0 (λ none. omega arith))
-      ∙ ap (λ p. unless ((not (is_some p), fault wrong.Unknown name.column) ∷ set_tests (get_or variables.kinds (unwrap_or p 0) 0) terms.sorts (unwrap_or p 0) name.column n (last_rule s).sets) (record { variable = unwrap_or p 0; term = n.value })) (sym named)
-
-  pub set_tested_from : (v kind : ℕ) (sets : List Assignment) (r : Result Assignment LineFault) → 0 < length s → Some v ≡ place_in variables.names name.bytes → kind ≡ get_or variables.kinds v 0 → sets ≡ (last_rule s).sets → r ≡ unless (set_tests kind terms.sorts v name.column n sets) (record { variable = v; term = n.value }) → r ≡ set_tested variables terms name n s
-  set_tested_from v kind sets r some named kinded last tested =
-      tested
-      ∙ ap (λ k. unless (set_tests k terms.sorts v name.column n sets) (record { variable = v; term = n.value })) kinded
-      ∙ ap (λ l. unless (set_tests (get_or variables.kinds v 0) terms.sorts v name.column n l) (record { variable = v; term = n.value })) last
-      ∙ sym (one_above some (Some v) named)
+  pub below_last : (rule : RuleV) (r : Result Assignment LineFault) → 0 < length s → last_rule s ≡ rule → r ≡ unless (set_tests_below variables terms name n rule) (assignment_of variables name n) → r ≡ set_tested variables terms name n s
+  below_last rule r some last tested =
+      tested ∙ ap (λ q. unless (set_tests_below variables terms name n q) (assignment_of variables name n)) (sym last)
+      ∙ sym (cond-false _ _ _ (ne_eqb (length s) 0 (λ none. omega arith)))
 
   -- a `set` line that passes its tests adds its assignment
   pub set_taken : (a : Assignment) → Ok a ≡ set_tested variables terms name n s → assignment_taken variables terms name n s ≡ Ok (with_set a s)

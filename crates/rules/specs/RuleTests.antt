@@ -28,17 +28,23 @@ set_tests kind sorts variable column n sets =
     no_such sorts n ∷ (differ (Value kind) (sort_of_number sorts n.value), fault wrong.WrongSort n.column)
     ∷ full 16 sets ∷ (is_set variable sets, fault wrong.SetTwice column) ∷ []
 
+-- The tests of a `set` line that stands below this rule.
+abbrev pub set_tests_below : VariablesV → TermsV → WordV → Number → RuleV → Tests
+set_tests_below variables terms name n rule =
+    let variable = number_in variables.names name in
+    unknown variables.names name ∷ set_tests (slice_index variables.kinds variable) terms.sorts variable name.column n rule.sets
+
 -- All the tests of a `set` line.
 abbrev pub set_line_tests : VariablesV → TermsV → WordV → Number → List RuleV → Tests
-set_line_tests variables terms name n s =
-    let variable = number_in variables.names name in
-    ((length s == 0), fault wrong.Key 1) ∷ unknown variables.names name
-    ∷ set_tests (slice_index variables.kinds variable) terms.sorts variable name.column n (last_rule s).sets
+set_line_tests variables terms name n s = ((length s == 0), fault wrong.Key 1) ∷ set_tests_below variables terms name n (last_rule s)
+
+-- The assignment that a `set` line says.
+abbrev pub assignment_of : VariablesV → WordV → Number → Assignment
+assignment_of variables name n = record { variable = number_in variables.names name; term = n.value }
 
 -- The assignment that a `set` line adds, or its fault.
 abbrev pub set_tested : VariablesV → TermsV → WordV → Number → List RuleV → Result Assignment LineFault
-set_tested variables terms name n s =
-    unless (set_line_tests variables terms name n s) (record { variable = number_in variables.names name; term = n.value })
+set_tested variables terms name n s = unless (set_line_tests variables terms name n s) (assignment_of variables name n)
 
 -- The rules with one assignment more for the last of them.
 abbrev pub more_sets : Assignment → RuleV → RuleV

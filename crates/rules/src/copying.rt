@@ -1,4 +1,4 @@
-// The table of rules once more.
+// The table of rules once more, in a heap that the caller gives: a `clone` takes memory from the heap that the value has.
 ghost use Rattle.std.specs.Prelude.{◌≡◌, map, IfOk};
 ghost use Rattle.rules.specs.Views.{rule_seen, rules_seen};
 
@@ -11,7 +11,7 @@ impl Rule {
         ensures a_rule_that_says_the_same { IfOk result (λ rule. rule_seen rule ≡ rule_seen self.now) }
     {
         let name = self.name.copy(heap)?;
-        let sets = self.sets.as_slice().to_vec(heap)?;
+        let sets = self.sets.to_vec(heap)?;
         Ok(Rule {
             name,
             guard: self.guard,
@@ -24,11 +24,7 @@ impl Rule {
 fn copy_rules(heap: Global, rules: &[Rule]) -> Result<Vec<Rule>, AllocError>
     ensures rules_that_say_the_same { IfOk result (λ v. map rule_seen v.items ≡ map rule_seen rules.now) }
 {
-    let mut copies = Vec::new(heap);
-    for i in 0..rules.len() {
-        copies.push(rules[i].copy(heap)?)?;
-    }
-    Ok(copies)
+    rules.iter().map(|rule| rule.copy(heap)).try_collect(heap)
 }
 
 impl RuleTable {
@@ -36,7 +32,7 @@ impl RuleTable {
     pub fn copy(&self, heap: Global) -> Result<RuleTable, AllocError>
         ensures rules_that_say_the_same { IfOk result (λ t. rules_seen t ≡ rules_seen self.now) }
     {
-        let rules = copy_rules(heap, self.rules.as_slice())?;
+        let rules = copy_rules(heap, &self.rules)?;
         Ok(RuleTable { rules })
     }
 }

@@ -1,11 +1,11 @@
 // The lines of the rules: `rule` and `set`.
-ghost use Rattle.std.specs.Prelude.{◌≡◌, ◌<◌, [], map, is_some, Ok, vec_len, OnOk};
-ghost use Rattle.names.specs.Names.{spelled, place_in};
+ghost use Rattle.std.specs.Prelude.{◌≡◌, [], map};
+ghost use Rattle.names.specs.Names.{spelled};
 ghost use Rattle.words.specs.Words.{word_seen};
 ghost use Rattle.reading.specs.Taking.{Came};
 ghost use Rattle.tables.specs.Taking.{unless};
 ghost use Rattle.tables.specs.Views.{terms_seen, variables_seen};
-ghost use Rattle.rules.specs.RuleTests.{rule_tests, value_tests, set_tests, set_tested, with_set};
+ghost use Rattle.rules.specs.RuleTests.{rule_tests, value_tests, set_tests_below, assignment_of};
 ghost use Rattle.rules.specs.Taking.{is_set, rule_taken, assignment_taken};
 ghost use Rattle.rules.specs.Views.{rule_seen, rules_seen};
 
@@ -13,6 +13,7 @@ use crate::table::{Rule, RuleTable};
 use names::{Name, Named, find};
 use reading::faults::TakeFault;
 use std::alloc::Global;
+use tables::taking::check_room;
 use tables::term_table::TermTable;
 use tables::variables::VariableTable;
 use terms::{Assignment, Sort};
@@ -33,13 +34,8 @@ impl Named for Rule {
     }
 }
 
-fn is_used(rules: &[Rule], name: &[u8]) -> bool
-    ensures whether_a_rule_has_the_name { result ≡ is_some (place_in (map (λ s. s.name) (map rule_seen rules.now)) name.now) }
-{
-    find(rules, name).is_some()
-}
-
 // The guard of a new rule, or the fault of its line.
+#[tactic(auto, using(crate::proofs::RuleLaws::same_place))]
 fn test_rule(
     rules: &[Rule],
     terms: &TermTable,
@@ -48,19 +44,11 @@ fn test_rule(
 ) -> Result<u16, LineFault>
     ensures the_guard_or_the_first_fault { result ≡ unless (rule_tests (terms_seen terms.now).sorts (word_seen name.entry) guard (map rule_seen rules.now)) guard.value }
 {
-    if is_used(rules, name.bytes) {
-        return Err(LineFault {
-            wrong: Wrong::Used,
-            column: name.column,
-        });
+    if find(rules, name.bytes).is_some() {
+        return Err(Wrong::Used.at(name.column));
     }
     let guard = terms.formula(guard)?;
-    if rules.len() >= MOST_RULES {
-        return Err(LineFault {
-            wrong: Wrong::TooMany,
-            column: 1,
-        });
-    }
+    check_room(rules, MOST_RULES)?;
     Ok(guard)
 }
 
@@ -68,20 +56,9 @@ fn test_rule(
 fn value_of(terms: &TermTable, kind: u16, n: Number) -> Result<u16, LineFault>
     ensures a_value_of_the_type_or_the_fault { result ≡ unless (value_tests kind (terms_seen terms.now).sorts n) n.value }
 {
-    let sorts = terms.sorts.as_slice();
-    if n.value as usize >= sorts.len() {
-        return Err(LineFault {
-            wrong: Wrong::NoSuch,
-            column: n.column,
-        });
-    }
-    let sort = sorts[n.value as usize];
-    match sort {
-        Sort::Value(of) if kind == of => Ok(n.value),
-        _ => Err(LineFault {
-            wrong: Wrong::WrongSort,
-            column: n.column,
-        }),
+    match terms.sort(n)? {
+        Sort::Value(of) if of == kind => Ok(n.value),
+        _ => Err(Wrong::WrongSort.at(n.column)),
     }
 }
 
@@ -89,42 +66,36 @@ fn value_of(terms: &TermTable, kind: u16, n: Number) -> Result<u16, LineFault>
 fn is_set(sets: &[Assignment], variable: u16) -> bool
     ensures whether_it_is_set { result ≡ is_set variable sets.now }
 {
-    for a in sets {
-        if a.variable == variable {
-            return true;
-        }
-    }
-    false
+    sets.iter().any(|a| a.variable == variable)
 }
 
-// The assignment of a variable of this type, whose name stands at this column; or the fault of its line.
-fn test_set(
-    kind: u16,
-    terms: &TermTable,
-    sets: &[Assignment],
-    variable: u16,
-    column: usize,
-    n: Number,
-) -> Result<Assignment, LineFault>
-    ensures the_assignment_or_the_first_fault { result ≡ unless (set_tests kind (terms_seen terms.now).sorts variable column n sets.now) (record { variable = variable; term = n.value }) }
-{
-    let term = value_of(terms, kind, n)?;
-    if sets.len() >= MOST_SETS {
-        return Err(LineFault {
-            wrong: Wrong::TooMany,
-            column: 1,
-        });
+impl Rule {
+    // The assignment that a `set` line adds to the rule, or the line's fault. The tables come apart, as `take_set` is given
+    // them.
+    fn next_set(
+        &self,
+        variables: &VariableTable,
+        terms: &TermTable,
+        name: Word<'_>,
+        term: Number,
+    ) -> Result<Assignment, LineFault>
+        ensures the_assignment_or_the_first_fault { result ≡ unless (set_tests_below (variables_seen variables.now) (terms_seen terms.now) (word_seen name.entry) term (rule_seen self.now)) (assignment_of (variables_seen variables.now) (word_seen name.entry) term) }
+    {
+        let variable = variables
+            .number(name.bytes)
+            .ok_or(Wrong::Unknown.at(name.column))?;
+        let kind = variables.kinds[variable as usize];
+        let term = value_of(terms, kind, term)?;
+        check_room(&self.sets, MOST_SETS)?;
+        if is_set(&self.sets, variable) {
+            return Err(Wrong::SetTwice.at(name.column));
+        }
+        Ok(Assignment { variable, term })
     }
-    if is_set(sets, variable) {
-        return Err(LineFault {
-            wrong: Wrong::SetTwice,
-            column,
-        });
-    }
-    Ok(Assignment { variable, term })
 }
 
 impl RuleTable {
+    // No rules.
     pub fn empty(heap: Global) -> RuleTable
         ensures no_rules { rules_seen result ≡ [] }
     {
@@ -143,50 +114,10 @@ impl RuleTable {
     ) -> Result<(), TakeFault>
         ensures what_the_line_adds_or_its_fault { Came result (rules_seen self.new) (rule_taken (terms_seen terms.now) (word_seen name.entry) guard (rules_seen self.old)) }
     {
-        let guard = test_rule(self.rules.as_slice(), terms, name, guard)?;
+        let guard = test_rule(&self.rules, terms, name, guard)?;
         let name = Name::copy_of(heap, name.bytes)?;
         let sets = Vec::new(heap);
         self.rules.push(Rule { name, guard, sets })?;
-        Ok(())
-    }
-
-    // The assignment that a `set` line adds to the rule that stands last, or the line's fault.
-    fn next_set(
-        &self,
-        variables: &VariableTable,
-        terms: &TermTable,
-        name: Word<'_>,
-        term: Number,
-    ) -> Result<Assignment, LineFault>
-        ensures the_assignment_or_the_first_fault { result ≡ set_tested (variables_seen variables.now) (terms_seen terms.now) (word_seen name.entry) term (rules_seen self.now) }
-        ensures a_rule_stands_above_it { OnOk result (0 < vec_len self.now.rules) }
-    {
-        let n = self.rules.len();
-        if n == 0 {
-            return Err(LineFault {
-                wrong: Wrong::Key,
-                column: 1,
-            });
-        }
-        let Some(variable) = variables.number(name.bytes) else {
-            return Err(LineFault {
-                wrong: Wrong::Unknown,
-                column: name.column,
-            });
-        };
-        let kind = variables.kinds[variable as usize];
-        let sets = self.rules[n - 1].sets.as_slice();
-        test_set(kind, terms, sets, variable, name.column, term)
-    }
-
-    // One assignment more for the rule that stands last.
-    fn add_set(&mut self, assignment: Assignment) -> Result<(), TakeFault>
-        requires there_is_a_rule { 0 < vec_len self.old.rules }
-        ensures the_last_rule_has_one_more { Came result (rules_seen self.new) (Ok (with_set assignment (rules_seen self.old))) }
-    {
-        let n = self.rules.len();
-        let last = &mut self.rules[n - 1];
-        last.sets.push(assignment)?;
         Ok(())
     }
 
@@ -200,7 +131,9 @@ impl RuleTable {
     ) -> Result<(), TakeFault>
         ensures what_the_line_adds_or_its_fault { Came result (rules_seen self.new) (assignment_taken (variables_seen variables.now) (terms_seen terms.now) (word_seen name.entry) term (rules_seen self.old)) }
     {
-        let assignment = self.next_set(variables, terms, name, term)?;
-        self.add_set(assignment)
+        let rule = self.rules.last_mut().ok_or(Wrong::Key.at(1))?;
+        let assignment = rule.next_set(variables, terms, name, term)?;
+        rule.sets.push(assignment)?;
+        Ok(())
     }
 }

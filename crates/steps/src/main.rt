@@ -5,44 +5,28 @@
 #![tactic(auto)]
 
 use anyhow::anyhow;
-use layered::record::Protocol;
 use precondition::copies::Copies;
 use precondition::scratch::precondition;
 use proposal::record::Proposal;
+use protocol::record::Protocol;
+use showing::as_text;
 use std::alloc::{AllocError, Global};
 use std::fs;
 use terms::Term;
 
-// A name is made of letters, digits and a few signs, so that it is always text.
-fn as_text(bytes: &[u8]) -> &str {
-    match std::str::from_utf8(bytes) {
-        Ok(text) => text,
-        Err(_) => "",
-    }
-}
-
 fn variable_name(protocol: &Protocol, number: usize) -> &str {
-    match protocol.variables().names.get(number) {
-        Some(name) => as_text(name.as_bytes()),
-        None => "?",
-    }
+    as_text(protocol.variable_name(number).unwrap_or(b"?"))
 }
 
 fn value_name(protocol: &Protocol, kind: usize, number: usize) -> &str {
-    match protocol.types().values.get(kind) {
-        Some(values) => match values.get(number) {
-            Some(name) => as_text(name.as_bytes()),
-            None => "?",
-        },
-        None => "?",
-    }
+    as_text(protocol.value_name(kind, number).unwrap_or(b"?"))
 }
 
 // A state as text: each variable with its value.
 fn show_state(heap: Global, protocol: &Protocol, state: &[u16]) -> Result<String, AllocError> {
     let mut text = String::new(heap);
     for (i, value) in state.iter().enumerate() {
-        let kind = protocol.variables().kinds.get(i).copied().unwrap_or(0);
+        let kind = protocol.variable_types().get(i).copied().unwrap_or(0);
         if i > 0 {
             text.push_str(" ")?;
         }
@@ -54,10 +38,9 @@ fn show_state(heap: Global, protocol: &Protocol, state: &[u16]) -> Result<String
 }
 
 fn text_at(texts: &[String], number: u16) -> &str {
-    match texts.get(number as usize) {
-        Some(text) => text.as_str(),
-        None => "false",
-    }
+    texts
+        .get(number as usize)
+        .map_or("false", |text| text.as_str())
 }
 
 // A term as text, from the texts of the terms before it.
@@ -109,7 +92,7 @@ fn show_terms(
 ) -> Result<Vec<String>, AllocError> {
     let mut texts = Vec::new(heap);
     for term in terms {
-        let text = show_term(heap, protocol, texts.as_slice(), *term)?;
+        let text = show_term(heap, protocol, &texts, *term)?;
         texts.push(text)?;
     }
     Ok(texts)
@@ -117,14 +100,14 @@ fn show_terms(
 
 fn print_firings(rt: &HostRuntime, protocol: &Protocol) -> anyhow::Result<()> {
     let heap = rt.alloc();
-    let mut state = vec![in heap; 0u16; protocol.variables().names.len()]?;
-    let before = show_state(heap, protocol, state.as_slice())?;
+    let mut state = vec![in heap; 0u16; protocol.variable_count()]?;
+    let before = show_state(heap, protocol, &state)?;
     println!(rt; "from {before}")?;
     for (number, rule) in protocol.rules().iter().enumerate() {
         let name = as_text(rule.name.as_bytes());
-        match protocol.fire(heap, number, state.as_slice())? {
+        match protocol.fire(heap, number, &state)? {
             Some(next) => {
-                let after = show_state(heap, protocol, next.as_slice())?;
+                let after = show_state(heap, protocol, &next)?;
                 println!(rt; "{name} leads to {after}")?;
                 state = next;
             }
@@ -140,8 +123,8 @@ fn all_terms(
     protocol: &Protocol,
     proposal: &Proposal,
 ) -> Result<Vec<Term>, AllocError> {
-    let mut all = protocol.terms().terms.as_slice().to_vec(heap)?;
-    all.extend_from_slice(proposal.terms().terms.as_slice())?;
+    let mut all = protocol.terms().to_vec(heap)?;
+    all.extend_from_slice(&proposal.terms().terms)?;
     Ok(all)
 }
 
@@ -151,24 +134,21 @@ fn print_preconditions(
     proposal: &Proposal,
 ) -> anyhow::Result<()> {
     let heap = rt.alloc();
-    let mut all = all_terms(heap, protocol, proposal)?;
-    let texts = show_terms(heap, protocol, all.as_slice())?;
+    let all = all_terms(heap, protocol, proposal)?;
+    let texts = show_terms(heap, protocol, &all)?;
     for invariant in proposal.invariants() {
         let name = as_text(invariant.name.as_bytes());
-        let text = text_at(texts.as_slice(), invariant.formula);
+        let text = text_at(&texts, invariant.formula);
         println!(rt; "{name} is {text}")?;
         for rule in protocol.rules() {
             let rule_name = as_text(rule.name.as_bytes());
-            let copies = match Copies::new(heap, all.as_slice()) {
-                Ok(copies) => copies,
-                Err(_) => return Err(anyhow!("the terms are refused")),
-            };
-            match precondition(heap, &copies, rule.sets.as_slice(), invariant.formula) {
+            let copies = Copies::new(heap, &all).map_err(|_| anyhow!("the terms are refused"))?;
+            match precondition(heap, &copies, &rule.sets, invariant.formula) {
                 Ok(answer) => {
                     let mut terms = all.as_slice().to_vec(heap)?;
-                    terms.extend_from_slice(answer.scratch.as_slice())?;
-                    let texts = show_terms(heap, protocol, terms.as_slice())?;
-                    let text = text_at(texts.as_slice(), answer.result);
+                    terms.extend_from_slice(&answer.scratch)?;
+                    let texts = show_terms(heap, protocol, &terms)?;
+                    let text = text_at(&texts, answer.result);
                     let new = answer.scratch.len();
                     println!(rt; "  before {rule_name}: {text} (new terms {new})")?;
                 }
@@ -183,14 +163,14 @@ fn run(rt: &HostRuntime) -> anyhow::Result<()> {
     let heap = rt.alloc();
     let mut protocol = Protocol::empty(heap);
     let text = fs::read(rt, "protocol.txt")?;
-    if layered::whole_file::read(heap, &text, &mut protocol).is_err() {
-        return Err(anyhow!("the protocol is refused"));
-    }
+    protocol::whole_file::read(heap, &text, &mut protocol).map_err(|_| anyhow!(
+        "the protocol is refused"
+    ))?;
     let mut proposal = Proposal::empty(heap);
     let text = fs::read(rt, "proposal.txt")?;
-    if proposal::whole_file::read(heap, &protocol, &text, &mut proposal).is_err() {
-        return Err(anyhow!("the proposal is refused"));
-    }
+    proposal::whole_file::read(heap, &protocol, &text, &mut proposal).map_err(|_| anyhow!(
+        "the proposal is refused"
+    ))?;
     print_firings(rt, &protocol)?;
     print_preconditions(rt, &protocol, &proposal)
 }

@@ -1,8 +1,10 @@
 pub mod Answered
 pub mod Copies
+pub mod Equals
 pub mod FormLaws
 pub mod LineLaws
 pub mod Matching
+pub mod NextLines
 pub mod Named
 pub mod RowLaws
 pub mod TermLaws

@@ -1,5 +1,5 @@
 -- Comparing two lists pair by pair, through what their elements stand for.
-use Rattle.std.proofs.Common.{◌≡◌, Bool, true, ◌&&◌, List, [], ◌∷◌, map, Decides, sym, refl, ◌∙◌, true≢false}
+use Rattle.std.proofs.Common.{◌≡◌, Bool, true, ◌&&◌, List, [], ◌∷◌, map, Decides, sym, refl, true≢false}
 use Rattle.std.proofs.lemmas.Bool.{and_parts}
 use Rattle.std.specs.Cmp.Lexicographic.{pointwise}
 
@@ -22,5 +22,5 @@ module _ {X Y : Type 0} (f : X → Y) (E : X → X → Bool) (each : (x y : X) �
       λ i. (each x y).1 head i && mapped_same xs ys tail i
 
   -- Where the test of two elements decides whether they stand for the same, so does that of two lists.
-  pub mapped_decides : (xs ys : List X) (r : Bool) → r ≡ pointwise E xs ys → Decides r (map f xs ≡ map f ys)
-  mapped_decides xs ys r is = (λ t. same_mapped xs ys (sym is ∙ t), λ e. is ∙ mapped_same xs ys e)
+  pub lists_decide : (xs ys : List X) → Decides (pointwise E xs ys) (map f xs ≡ map f ys)
+  lists_decide xs ys = (same_mapped xs ys, mapped_same xs ys)

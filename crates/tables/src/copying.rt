@@ -1,4 +1,4 @@
-// The tables once more.
+// The tables once more, in a heap that the caller gives: a `clone` takes memory from the heap that the value has.
 ghost use Rattle.std.specs.Prelude.{◌≡◌, map, drop, IfOk};
 ghost use Rattle.names.specs.Names.{spelled};
 ghost use Rattle.tables.specs.Records.{behind};
@@ -15,32 +15,24 @@ use std::alloc::{AllocError, Global};
 fn copy_names(heap: Global, names: &[Name]) -> Result<Vec<Name>, AllocError>
     ensures names_spelled_the_same { IfOk result (λ v. map spelled v.items ≡ map spelled names.now) }
 {
-    let mut copies = Vec::new(heap);
-    for i in 0..names.len() {
-        copies.push(names[i].copy(heap)?)?;
-    }
-    Ok(copies)
+    names.iter().map(|name| name.copy(heap)).try_collect(heap)
 }
 
 // The same lists of names once more.
 fn copy_lists(heap: Global, lists: &[Vec<Name>]) -> Result<Vec<Vec<Name>>, AllocError>
     ensures lists_of_names_spelled_the_same { IfOk result (λ v. spellings v ≡ map (λ list. map spelled list.items) lists.now) }
 {
-    let mut copies = Vec::new(heap);
-    for i in 0..lists.len() {
-        copies.push(copy_names(heap, lists[i].as_slice())?)?;
-    }
-    Ok(copies)
+    lists
+        .iter()
+        .map(|list| copy_names(heap, list))
+        .try_collect(heap)
 }
 
 // What stands behind the first `n`.
 fn copy_behind<T: Copy>(heap: Global, items: &[T], n: usize) -> Result<Vec<T>, AllocError>
     ensures those_behind_the_first { IfOk result (λ v. v.items ≡ drop n items.now) }
 {
-    if n >= items.len() {
-        return Ok(Vec::new(heap));
-    }
-    Vec::from_slice(heap, &items[n..])
+    items.iter().skip(n).copied().collect(heap)
 }
 
 impl TypeTable {
@@ -48,9 +40,9 @@ impl TypeTable {
     pub fn copy(&self, heap: Global) -> Result<TypeTable, AllocError>
         ensures types_that_say_the_same { IfOk result (λ t. types_seen t ≡ types_seen self.now) }
     {
-        let names = copy_names(heap, self.names.as_slice())?;
-        let values = copy_lists(heap, self.values.as_slice())?;
-        let sizes = self.sizes.as_slice().to_vec(heap)?;
+        let names = copy_names(heap, &self.names)?;
+        let values = copy_lists(heap, &self.values)?;
+        let sizes = self.sizes.to_vec(heap)?;
         Ok(TypeTable {
             names,
             values,
@@ -64,8 +56,8 @@ impl VariableTable {
     pub fn copy(&self, heap: Global) -> Result<VariableTable, AllocError>
         ensures variables_that_say_the_same { IfOk result (λ t. variables_seen t ≡ variables_seen self.now) }
     {
-        let names = copy_names(heap, self.names.as_slice())?;
-        let kinds = self.kinds.as_slice().to_vec(heap)?;
+        let names = copy_names(heap, &self.names)?;
+        let kinds = self.kinds.to_vec(heap)?;
         Ok(VariableTable {
             names,
             kinds,
@@ -79,8 +71,8 @@ impl TermTable {
     pub fn copy(&self, heap: Global) -> Result<TermTable, AllocError>
         ensures terms_that_say_the_same { IfOk result (λ t. terms_seen t ≡ terms_seen self.now) }
     {
-        let terms = self.terms.as_slice().to_vec(heap)?;
-        let sorts = self.sorts.as_slice().to_vec(heap)?;
+        let terms = self.terms.to_vec(heap)?;
+        let sorts = self.sorts.to_vec(heap)?;
         Ok(TermTable { terms, sorts })
     }
 
@@ -88,8 +80,8 @@ impl TermTable {
     pub fn behind(&self, heap: Global, n: usize) -> Result<TermTable, AllocError>
         ensures those_behind_the_first { IfOk result (λ t. terms_seen t ≡ behind n (terms_seen self.now)) }
     {
-        let terms = copy_behind(heap, self.terms.as_slice(), n)?;
-        let sorts = copy_behind(heap, self.sorts.as_slice(), n)?;
+        let terms = copy_behind(heap, &self.terms, n)?;
+        let sorts = copy_behind(heap, &self.sorts, n)?;
         Ok(TermTable { terms, sorts })
     }
 }

@@ -5,7 +5,8 @@ ghost use Rattle.tables.specs.Spellings.{spellings};
 use names::Name;
 
 // The types: their names, of each type the names of its values, and how many these are. At most 8 types of at most 16 values.
-#[derive(Drop)]
+// They are columns and no rows, since `Declarations` lends the sizes as one slice.
+#[derive(Drop, PartialEq)]
 pub struct TypeTable {
     pub names: Vec<Name>,
     pub values: Vec<Vec<Name>>,

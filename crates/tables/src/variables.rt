@@ -4,8 +4,9 @@ ghost use Rattle.std.specs.Prelude.{◌≡◌, ◌^◌, ◌≤◌, vec_len};
 use names::Name;
 
 // The variables: their names, of each its type, and the number of states, which is their sizes multiplied. At most 32
-// variables with at most 2^40 states.
-#[derive(Drop)]
+// variables with at most 2^40 states. They are columns and no rows, since `Declarations` lends the types of the variables
+// as one slice.
+#[derive(Drop, PartialEq)]
 pub struct VariableTable {
     pub names: Vec<Name>,
     pub kinds: Vec<u16>,

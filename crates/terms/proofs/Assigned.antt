@@ -1,17 +1,19 @@
 -- The values that assignments by number give are those that the assignments of trees give.
-use Rattle.std.proofs.Common.{◌≡◌, ℕ, ◌-◌, ◌<◌, ◌≤◌, Bool, true, false, cond, eqb, List, [], ◌∷◌, map, length, get_or, drop, set, Some, None, Option, sym, refl, ap, ◌∙◌, subst, arith}
+use Rattle.std.proofs.Common.{◌≡◌, ℕ, ◌<◌, ◌≤◌, Bool, true, false, cond, eqb, List, [], ◌∷◌, ◌++◌, map, length, get_or, set, Some, None, Option, sym, refl, ap, ◌∙◌, subst, append_assoc, arith}
 use mathlib.Core.Path.{fun_ext}
-use Rattle.std.proofs.lemmas.List.{get_or-set_same, get_or-set_other, drop_more}
-use Rattle.std.proofs.lemmas.Bool.{cond_both, cond-true, cond-false, eqb-true, eqb-false}
+use Rattle.std.proofs.lemmas.List.{length-set, get_or-set_same, get_or-set_other}
+use Rattle.std.proofs.lemmas.List.FromFn.{fill_by_all}
+use Rattle.std.proofs.lemmas.Bool.{cond_both, cond-true, eqb-true, eqb-false}
 use Rattle.std.specs.List.{range_with_len}
 use Rattle.semantics.specs.Trees.{Tree, State, value, is_true, true_in}
+use Rattle.semantics.specs.Trees as tree
 use Rattle.semantics.specs.Firing as firing
 use Rattle.terms.specs.declared.Assignment.{Assignment}
 use Rattle.terms.specs.declared.Term.{Term}
 use Rattle.terms.specs.Rules.{assignments, rule, after, set_value}
 use Rattle.terms.specs.Reading.{value_at}
 use Rattle.terms.specs.Trees.{tree_at, trees}
-use Rattle.terms.proofs.Composed.{read_at}
+use Rattle.std.proofs.Math.ListN.{get_or-map}
 
 module _ (s : State) (forest : List Tree) (v : ℕ) where
   abbrev worth : Tree → ℕ
@@ -23,7 +25,7 @@ module _ (s : State) (forest : List Tree) (v : ℕ) where
 
   pub set_next : (sets : List Assignment) → set_value (map worth forest) s sets v ≡ firing.next_value (firing.assigned (assignments forest sets) v) s v
   set_next [] = refl
-  set_next (a ∷ sets) = chosen (eqb a.variable v) _ _ (tree_at forest a.term) (firing.assigned (assignments forest sets) v) (read_at worth forest a.term) (set_next sets)
+  set_next (a ∷ sets) = chosen (eqb a.variable v) _ _ (tree_at forest a.term) (firing.assigned (assignments forest sets) v) (get_or-map worth forest a.term tree.False) (set_next sets)
 
 -- one assignment more in front of those that are made
 module _ (values s next : List ℕ) (a : Assignment) (rest : List Assignment) (made : (v : ℕ) → v < length s → get_or next v 0 ≡ set_value values s rest v) (v : ℕ) (inside : v < length s) where
@@ -42,13 +44,43 @@ module _ (values s next : List ℕ) (a : Assignment) (rest : List Assignment) (m
       (λ same. absurd (omega (arith, eqb-true a.variable v same)))
       (λ other. made v inside)
 
--- the assignments from one place earlier on
-pub front_more : (sets : List Assignment) (i : ℕ) (a : Assignment) → 0 < i → i ≤ length sets → drop (i - 1) sets ≡ get_or sets (i - 1) a ∷ drop i sets
-front_more sets i a some within = drop_more sets (i - 1) a (omega arith) ∙ ap (λ k. get_or sets (i - 1) a ∷ drop k sets) (omega arith)
+-- the assignments that are not left are made
+pub record MadeBut (values s : List ℕ) (sets left : List Assignment) (next : List ℕ) : Type 0 where
+  pub made : List Assignment
+  pub split : sets ≡ left ++ made
+  pub long : length next ≡ length s
+  pub each : (v : ℕ) → v < length s → get_or next v 0 ≡ set_value values s made v
+
+module _ (values s : List ℕ) (sets : List Assignment) (next : List ℕ) where
+  pub all_made : (left : List Assignment) → length left ≡ 0 → MadeBut values s sets left next → next ≡ map (set_value values s sets) (range_with_len 0 (length s))
+  all_made [] none so_far = fill_by_all (set_value values s sets) next (length s) 0 so_far.long (λ v inside. so_far.each v inside ∙ ap (λ made. set_value values s made v) (sym so_far.split))
+  all_made (a ∷ left) none so_far = absurd (omega arith)
+
+  module _ (before left : List Assignment) (a : Assignment) (is : before ≡ left ++ a ∷ []) (so_far : MadeBut values s sets before next) where
+    split_more : sets ≡ left ++ a ∷ so_far.made
+    split_more = so_far.split ∙ ap (λ xs. xs ++ so_far.made) is ∙ append_assoc left (a ∷ []) so_far.made
+
+    pub made_more : (given : ℕ) → given ≡ value_at values a.term → a.variable < length next → MadeBut values s sets left (set next a.variable given)
+    made_more given worth here =
+        record {
+          made = a ∷ so_far.made;
+          split = split_more;
+          long = length-set next a.variable given ∙ so_far.long;
+          each = λ v inside. ap (λ x. get_or (set next a.variable x) v 0) worth ∙ assigned_more values s next a so_far.made so_far.each v inside here;
+        }
+
+    pub made_past : length next ≤ a.variable → MadeBut values s sets left next
+    made_past over =
+        record {
+          made = a ∷ so_far.made;
+          split = split_more;
+          long = so_far.long;
+          each = λ v inside. assigned_past values s next a so_far.made so_far.each v inside (omega (arith, so_far.long));
+        }
 
 module _ (terms : List Term) (guard : ℕ) (sets : List Assignment) (s : State) (values : List ℕ) (are : values ≡ map (λ t. value t s) (trees terms)) where
   enabled : is_true (value_at values guard) ≡ true_in s (tree_at (trees terms) guard)
-  enabled = ap is_true (ap (λ xs. value_at xs guard) are ∙ read_at (λ t. value t s) (trees terms) guard)
+  enabled = ap is_true (ap (λ xs. value_at xs guard) are ∙ get_or-map (λ t. value t s) (trees terms) guard tree.False)
 
   made_all : (next : List ℕ) → next ≡ map (set_value values s sets) (range_with_len 0 (length s)) → next ≡ firing.fire (rule terms guard sets) s
   made_all next is =
@@ -58,6 +90,3 @@ module _ (terms : List Term) (guard : ℕ) (sets : List Assignment) (s : State) 
   fires next is holds =
       ap Some (made_all next is)
       ∙ sym (cond-true (true_in s (tree_at (trees terms) guard)) (Some (firing.fire (rule terms guard sets) s)) None (sym enabled ∙ holds))
-
-  pub not_fires : is_true (value_at values guard) ≡ false → None ≡ after (rule terms guard sets) s
-  not_fires no' = sym (cond-false (true_in s (tree_at (trees terms) guard)) (Some (firing.fire (rule terms guard sets) s)) None (sym enabled ∙ no'))

@@ -1,4 +1,4 @@
 pub mod Tables
 pub mod SortLaws
-pub mod Composed
 pub mod Assigned
+pub mod Arguments

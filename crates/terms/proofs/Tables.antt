@@ -1,15 +1,11 @@
 -- The trees of a table, one term more at a time.
 use Rattle.std.proofs.Common.{◌≡◌, ℕ, ◌+◌, ◌<◌, ◌≤◌, List, [], ◌∷◌, ◌++◌, map, length, get_or, take, drop, fold, sym, refl, ap, ◌∙◌, ap₂, arith}
 use Rattle.std.proofs.lemmas.List.{take_all, take-take, take_at, take-append-drop, length_push, length-take-le, get_or-take, get_or_push, map_push}
-use Rattle.std.proofs.lemmas.List.Sums.{fold_more}
+use Rattle.std.proofs.lemmas.List.Sums.{fold-append, fold_more}
 use Rattle.semantics.specs.Trees.{Tree, False}
 use Rattle.terms.specs.declared.Term.{Term}
 use Rattle.terms.specs.Laws.{PrefixLaw}
 use Rattle.terms.specs.Trees.{tree_at, tree_of, with_term, trees}
-
-folded_append : (before : List Tree) (terms more : List Term) → fold with_term before (terms ++ more) ≡ fold with_term (fold with_term before terms) more
-folded_append before [] more = refl
-folded_append before (term ∷ terms) more = folded_append (with_term before term) terms more
 
 folded_length : (before : List Tree) (terms : List Term) → length (fold with_term before terms) ≡ length before + length terms
 folded_length before [] = omega arith
@@ -26,7 +22,7 @@ folded_front before (term ∷ terms) =
 
 pub trees_append : (terms more : List Term) → trees (terms ++ more) ≡ fold with_term (trees terms) more
 unfolding trees
-trees_append terms more = folded_append [] terms more
+trees_append terms more = fold-append with_term [] terms more
 
 pub trees_push : (terms : List Term) (term : Term) → trees (terms ++ term ∷ []) ≡ with_term (trees terms) term
 trees_push terms term = trees_append terms (term ∷ [])

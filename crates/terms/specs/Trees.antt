@@ -5,6 +5,19 @@ use Rattle.semantics.specs.Trees.{Tree, Var, Val, True, False, Eq, Not, And, Or,
 use Rattle.terms.specs.declared.Term.{Term}
 use Rattle.terms.specs.declared.Term.TheVariants as term
 
+-- The numbers of a term's arguments.
+abbrev pub arguments : Term → List ℕ
+arguments (term.Var v) = []
+arguments (term.Val of k) = []
+arguments term.True = []
+arguments term.False = []
+arguments (term.Eq a b) = a ∷ b ∷ []
+arguments (term.Not a) = a ∷ []
+arguments (term.And a b) = a ∷ b ∷ []
+arguments (term.Or a b) = a ∷ b ∷ []
+arguments (term.Imp a b) = a ∷ b ∷ []
+arguments (term.Ite f a b) = f ∷ a ∷ b ∷ []
+
 -- The tree of a number. A number of no tree means the tree False.
 abbrev pub tree_at : List Tree → ℕ → Tree
 tree_at trees n = slice_index_or trees n False

@@ -19,10 +19,9 @@ fn assign(
     ensures each_variable_has_its_next_value { IfOk result (λ next. next.items ≡ map (set_value values.now state.now sets.now) (range_with_len 0 (length state.now))) }
 {
     let mut next = Vec::from_slice(heap, state)?;
-    for i in (0..sets.len()).rev() {
-        let Assignment { variable, term } = sets[i];
-        if (variable as usize) < next.len() {
-            next[variable as usize] = value_of_number(values, term);
+    for set in sets.iter().rev() {
+        if let Some(value) = next.get_mut(set.variable as usize) {
+            *value = value_of_number(values, set.term);
         }
     }
     Ok(next)

@@ -7,9 +7,16 @@ pub mod meanings;
 pub mod occurring;
 pub mod values;
 
-ghost use Rattle.std.specs.Prelude.{◌≡◌, false, []};
+ghost use Rattle.std.specs.Prelude.{◌≡◌, false, length, [], ◌∷◌, nat_le, slice_index_or};
+ghost use Rattle.std.specs.List.{flat_map};
+ghost use Rattle.std.specs.Option.{option_to_list};
 ghost use Rattle.terms.specs.Laws.{PrefixLaw, SortsLaw};
-ghost use Rattle.terms.specs.Sorts.{number as number_of, argument as argument_of, declared, undeclared, missing_term, sort_of_number, sort_is_formula, sort_is_value, differ, sort};
+ghost use Rattle.terms.specs.Sorts.{number as number_of, argument as argument_of, declared, undeclared, first_fault, unless, sort_is_formula, sort_is_value, differ, sort};
+ghost use Rattle.terms.specs.Trees.{arguments as arguments_of};
+ghost use Rattle.terms.specs.declared.TermFault.TheVariants.{NoSuch, WrongSort};
+
+// A table has at most this many terms.
+pub const MOST_TERMS: usize = 512;
 
 // A term. Its numbers are those of a variable, of a type and one of its values, or of earlier terms.
 #[derive(Clone, Copy, Debug, PartialEq, Eq)]
@@ -71,147 +78,122 @@ impl TermFault {
         ensures the_argument_at_fault { result ≡ argument_of self }
     {
         match self {
-            TermFault::NoSuch(argument) => argument,
-            TermFault::WrongSort(argument) => argument,
+            TermFault::NoSuch(argument) | TermFault::WrongSort(argument) => argument,
+        }
+    }
+}
+
+impl Term {
+    // The numbers of its arguments, from the left.
+    pub fn arguments(self) -> [Option<u16>; 3]
+        ensures its_arguments { flat_map option_to_list result ≡ arguments_of self }
+    {
+        match self {
+            Term::Var(_) | Term::Val(_, _) | Term::True | Term::False => [None; 3],
+            Term::Not(a) => [Some(a), None, None],
+            Term::Eq(a, b) | Term::And(a, b) | Term::Or(a, b) | Term::Imp(a, b) => {
+                [Some(a), Some(b), None]
+            }
+            Term::Ite(f, a, b) => [Some(f), Some(a), Some(b)],
         }
     }
 }
 
 impl Sort {
-    fn is_formula(self) -> bool
-        ensures whether_it_is_a_formula { result ≡ sort_is_formula self }
+    // A formula is wanted at this argument.
+    fn must_be_formula(self, argument: u8) -> Result<(), TermFault>
+        ensures unless_it_is_a_value { result ≡ unless (first_fault ((sort_is_value self, WrongSort argument) ∷ [])) tt }
     {
         match self {
-            Sort::Formula => true,
-            Sort::Value(_) => false,
+            Sort::Formula => Ok(()),
+            Sort::Value(_) => Err(TermFault::WrongSort(argument)),
         }
     }
 
-    fn is_value(self) -> bool
-        ensures whether_it_is_a_value { result ≡ sort_is_value self }
+    // A value is wanted at this argument.
+    fn must_be_value(self, argument: u8) -> Result<(), TermFault>
+        ensures unless_it_is_a_formula { result ≡ unless (first_fault ((sort_is_formula self, WrongSort argument) ∷ [])) tt }
     {
         match self {
-            Sort::Formula => false,
-            Sort::Value(_) => true,
+            Sort::Formula => Err(TermFault::WrongSort(argument)),
+            Sort::Value(_) => Ok(()),
         }
     }
 
-    // Whether the two are not two values of one type.
-    fn differs(self, other: Sort) -> bool
-        ensures not_two_values_of_one_type { result ≡ differ self other }
+    // A value of the same type as this value is wanted at this argument.
+    fn must_match(self, other: Sort, argument: u8) -> Result<(), TermFault>
+        ensures unless_they_differ { sort_is_formula self ≡ false → result ≡ unless (first_fault ((differ self other, WrongSort argument) ∷ [])) tt }
     {
-        match (self, other) {
-            (Sort::Value(of), Sort::Value(another)) => of != another,
-            _ => true,
+        if self == other {
+            Ok(())
+        } else {
+            Err(TermFault::WrongSort(argument))
         }
     }
 }
 
-fn no_term(sorts: &[Sort], n: u16) -> bool
-    ensures there_is_no_earlier_term_of_this_number { result ≡ missing_term sorts.now n }
+// What stands at the number that is this argument.
+fn at<T: Copy>(items: &[T], n: u16, argument: u8) -> Result<T, TermFault>
+    ensures the_item_or_that_there_is_none { (default : T) → result ≡ unless (first_fault ((nat_le (length items.now) n, NoSuch argument) ∷ [])) (slice_index_or items.now n default) }
 {
-    sorts.len() <= n as usize
-}
-
-fn sort_at(sorts: &[Sort], n: u16) -> Sort
-    requires there_is_one { missing_term sorts.now n ≡ false }
-    ensures the_sort_of_the_earlier_term { result ≡ sort_of_number sorts.now n }
-{
-    sorts[n as usize]
+    items
+        .get(n as usize)
+        .copied()
+        .ok_or(TermFault::NoSuch(argument))
 }
 
 fn variable_sort(declarations: Declarations<'_>, v: u16) -> Result<Sort, TermFault>
     ensures the_type_of_the_variable { result ≡ sort (declared declarations.entry) [] (Term.Var v) }
 {
-    if declarations.variables.len() <= v as usize {
-        return Err(TermFault::NoSuch(0));
-    }
-    Ok(Sort::Value(declarations.variables[v as usize]))
+    Ok(Sort::Value(at(declarations.variables, v, 0)?))
 }
 
 fn value_sort(declarations: Declarations<'_>, of: u16, value: u16) -> Result<Sort, TermFault>
     ensures the_type_of_the_value { result ≡ sort (declared declarations.entry) [] (Term.Val of value) }
 {
-    if declarations.types.len() <= of as usize {
-        return Err(TermFault::NoSuch(0));
+    if value < at(declarations.types, of, 0)? {
+        Ok(Sort::Value(of))
+    } else {
+        Err(TermFault::NoSuch(1))
     }
-    if declarations.types[of as usize] <= value {
-        return Err(TermFault::NoSuch(1));
-    }
-    Ok(Sort::Value(of))
 }
 
 fn equality_sort(sorts: &[Sort], a: u16, b: u16) -> Result<Sort, TermFault>
     ensures two_values_of_one_type { result ≡ sort undeclared sorts.now (Term.Eq a b) }
 {
-    if no_term(sorts, a) {
-        return Err(TermFault::NoSuch(0));
-    }
-    if no_term(sorts, b) {
-        return Err(TermFault::NoSuch(1));
-    }
-    let left = sort_at(sorts, a);
-    if left.is_formula() {
-        return Err(TermFault::WrongSort(0));
-    }
-    if left.differs(sort_at(sorts, b)) {
-        return Err(TermFault::WrongSort(1));
-    }
+    let left = at(sorts, a, 0)?;
+    let right = at(sorts, b, 1)?;
+    left.must_be_value(0)?;
+    left.must_match(right, 1)?;
     Ok(Sort::Formula)
 }
 
 fn negation_sort(sorts: &[Sort], a: u16) -> Result<Sort, TermFault>
     ensures one_formula { result ≡ sort undeclared sorts.now (Term.Not a) }
 {
-    if no_term(sorts, a) {
-        return Err(TermFault::NoSuch(0));
-    }
-    if sort_at(sorts, a).is_value() {
-        return Err(TermFault::WrongSort(0));
-    }
+    at(sorts, a, 0)?.must_be_formula(0)?;
     Ok(Sort::Formula)
 }
 
 fn connective_sort(sorts: &[Sort], a: u16, b: u16) -> Result<Sort, TermFault>
     ensures two_formulas { result ≡ sort undeclared sorts.now (Term.And a b) }
 {
-    if no_term(sorts, a) {
-        return Err(TermFault::NoSuch(0));
-    }
-    if no_term(sorts, b) {
-        return Err(TermFault::NoSuch(1));
-    }
-    if sort_at(sorts, a).is_value() {
-        return Err(TermFault::WrongSort(0));
-    }
-    if sort_at(sorts, b).is_value() {
-        return Err(TermFault::WrongSort(1));
-    }
+    let left = at(sorts, a, 0)?;
+    let right = at(sorts, b, 1)?;
+    left.must_be_formula(0)?;
+    right.must_be_formula(1)?;
     Ok(Sort::Formula)
 }
 
 fn choice_sort(sorts: &[Sort], f: u16, a: u16, b: u16) -> Result<Sort, TermFault>
     ensures a_formula_and_two_values_of_one_type { result ≡ sort undeclared sorts.now (Term.Ite f a b) }
 {
-    if no_term(sorts, f) {
-        return Err(TermFault::NoSuch(0));
-    }
-    if no_term(sorts, a) {
-        return Err(TermFault::NoSuch(1));
-    }
-    if no_term(sorts, b) {
-        return Err(TermFault::NoSuch(2));
-    }
-    if sort_at(sorts, f).is_value() {
-        return Err(TermFault::WrongSort(0));
-    }
-    let left = sort_at(sorts, a);
-    if left.is_formula() {
-        return Err(TermFault::WrongSort(1));
-    }
-    if left.differs(sort_at(sorts, b)) {
-        return Err(TermFault::WrongSort(2));
-    }
+    let test = at(sorts, f, 0)?;
+    let left = at(sorts, a, 1)?;
+    let right = at(sorts, b, 2)?;
+    test.must_be_formula(0)?;
+    left.must_be_value(1)?;
+    left.must_match(right, 2)?;
     Ok(left)
 }
 
@@ -229,21 +211,21 @@ pub fn sort_of(
         Term::True | Term::False => Ok(Sort::Formula),
         Term::Eq(a, b) => equality_sort(sorts, a, b),
         Term::Not(a) => negation_sort(sorts, a),
-        Term::And(a, b) => connective_sort(sorts, a, b),
-        Term::Or(a, b) => connective_sort(sorts, a, b),
-        Term::Imp(a, b) => connective_sort(sorts, a, b),
+        Term::And(a, b) | Term::Or(a, b) | Term::Imp(a, b) => connective_sort(sorts, a, b),
         Term::Ite(f, a, b) => choice_sort(sorts, f, a, b),
     }
 }
 
 // The two functions below stand for laws about the trees of a table: the contract is the law, and no call does anything.
 
+#[tactic(auto, using(crate::proofs::Tables::prefix_law))]
 pub fn prefix_law() -> u8
     ensures terms_added_at_the_end_change_no_tree { PrefixLaw }
 {
     0
 }
 
+#[tactic(auto, using(crate::proofs::SortLaws::sorts_law))]
 pub fn sorts_law() -> u8
     ensures the_tree_of_a_term_with_a_sort_has_that_sort { SortsLaw }
 {

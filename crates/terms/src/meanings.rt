@@ -10,11 +10,7 @@ use std::alloc::{AllocError, Global};
 pub fn at_or<T: Copy>(items: &[T], n: u16, default: T) -> T
     ensures the_item_or_the_default { result ≡ slice_index_or items.now n default }
 {
-    if (n as usize) < items.len() {
-        items[n as usize]
-    } else {
-        default
-    }
+    items.get(n as usize).copied().unwrap_or(default)
 }
 
 // A reading of trees that a term has by what the terms before it are read as.
@@ -30,6 +26,7 @@ pub trait Meaning {
 }
 
 // What each of the terms is read as.
+#[tactic(auto, using(crate::proofs::Tables::trees_none))]
 pub fn meanings<M: Meaning>(
     heap: Global,
     reading: &M,

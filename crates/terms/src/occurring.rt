@@ -22,13 +22,11 @@ fn occurs_in_term(variable: u16, flags: &[bool], term: Term) -> bool
 {
     match term {
         Term::Var(v) => variable == v,
-        Term::Val(_, _) | Term::True | Term::False => false,
-        Term::Not(a) => occurs_in_number(flags, a),
-        Term::Eq(a, b) | Term::And(a, b) | Term::Or(a, b) | Term::Imp(a, b) => {
-            occurs_in_number(flags, a) || occurs_in_number(flags, b)
-        }
-        Term::Ite(f, a, b) => {
-            occurs_in_number(flags, f) || occurs_in_number(flags, a) || occurs_in_number(flags, b)
+        _ => {
+            term.arguments()
+                .iter()
+                .flatten()
+                .any(|a| occurs_in_number(flags, *a))
         }
     }
 }

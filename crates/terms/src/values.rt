@@ -12,7 +12,7 @@ use std::alloc::{AllocError, Global};
 fn number(truth: bool) -> u16
     ensures one_if_true_else_zero { result ≡ bit truth }
 {
-    if truth { 1 } else { 0 }
+    u16::from(truth)
 }
 
 // Whether a value counts as true.

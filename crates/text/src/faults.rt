@@ -1,38 +1,39 @@
 // What can be wrong with a line, and with a file.
 ghost use Rattle.std.specs.Prelude.{◌≡◌, Some};
-ghost use Rattle.text.specs.Faults.{number as number_of, file_number, file_line, file_column, placed_at, printed};
+ghost use Rattle.text.specs.Faults.{fault as fault_of, number as number_of, file_number, file_line, file_column, placed_at, printed};
 ghost use Rattle.text.specs.declared.faults.FileFault.TheVariants.{Line};
 
+use failures::Reason;
 use std::fmt;
 
 #[derive(Clone, Copy, Debug, PartialEq, Eq)]
 pub enum Wrong {
     // A byte outside 32 to 126, or a line of more than 255 bytes.
-    Byte,
+    Byte = 2,
     // The text ends before a line feed, or before the line that ends the file.
-    NoLineFeed,
+    NoLineFeed = 3,
     // The key is absent, not known in this file, or out of place.
-    Key,
+    Key = 4,
     // A word is missing, extra, empty or misformed.
-    Word,
+    Word = 5,
     // A name that is used already.
-    Used,
+    Used = 6,
     // A name of nothing that is declared.
-    Unknown,
+    Unknown = 7,
     // A number of nothing that exists.
-    NoSuch,
+    NoSuch = 8,
     // A term of the wrong sort.
-    WrongSort,
+    WrongSort = 9,
     // More lines or values than allowed.
-    TooMany,
+    TooMany = 10,
     // More than 2^40 states.
-    TooManyStates,
+    TooManyStates = 11,
     // A variable that the rule sets already.
-    SetTwice,
+    SetTwice = 12,
     // The name of another protocol.
-    AnotherProtocol,
+    AnotherProtocol = 13,
     // A cause that does not come after the one above it.
-    NotAscending,
+    NotAscending = 14,
 }
 
 impl Wrong {
@@ -40,20 +41,16 @@ impl Wrong {
     pub fn number(self) -> u8
         ensures the_number_of_the_kind { result ≡ number_of self }
     {
-        match self {
-            Wrong::Byte => 2,
-            Wrong::NoLineFeed => 3,
-            Wrong::Key => 4,
-            Wrong::Word => 5,
-            Wrong::Used => 6,
-            Wrong::Unknown => 7,
-            Wrong::NoSuch => 8,
-            Wrong::WrongSort => 9,
-            Wrong::TooMany => 10,
-            Wrong::TooManyStates => 11,
-            Wrong::SetTwice => 12,
-            Wrong::AnotherProtocol => 13,
-            Wrong::NotAscending => 14,
+        self as u8
+    }
+
+    // The fault of this kind at a column; columns count from 1.
+    pub fn at(self, column: usize) -> LineFault
+        ensures the_fault_at_the_column { result ≡ fault_of self column }
+    {
+        LineFault {
+            wrong: self,
+            column,
         }
     }
 }
@@ -64,6 +61,8 @@ pub struct LineFault {
     pub wrong: Wrong,
     pub column: usize,
 }
+
+impl Reason for LineFault {}
 
 // A line's own fault with the number of the line.
 #[derive(Clone, Copy, Debug, PartialEq, Eq)]
@@ -113,6 +112,8 @@ impl FileFault {
     }
 }
 
+impl Reason for FileFault {}
+
 impl From<Placed> for FileFault {
     ghost from_gives = { λ placed r. r ≡ Line placed };
 
@@ -137,8 +138,5 @@ impl fmt::Display for FileFault {
 pub fn at_line<T>(line: usize, answer: Result<T, LineFault>) -> Result<T, Placed>
     ensures the_answer_or_its_fault_with_the_line { result ≡ placed_at line answer }
 {
-    match answer {
-        Ok(value) => Ok(value),
-        Err(fault) => Err(Placed { line, fault }),
-    }
+    answer.map_err(|fault| Placed { line, fault })
 }

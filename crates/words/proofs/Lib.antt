@@ -1,5 +1,3 @@
-pub mod Everies
 pub mod NameLaws
 pub mod Repeated
 pub mod Splits
-pub mod WordLaws

@@ -1,75 +1,76 @@
--- What a loop over the words of a text finds at each turn, and what follows where no word comes again.
-use Rattle.std.proofs.Common.{◌≡◌, ℕ, suc, ◌+◌, ◌<◌, ◌≤◌, true, false, ◌&&◌, ◌||◌, eqb, ltb, List, [], ◌∷◌, length, Some, None, Ok, Err, sym, ap, ◌∙◌, ⊎_elim, arith}
+-- What follows from taking one word after another, and what follows where no word comes again.
+use Rattle.std.proofs.Common.{◌≡◌, ℕ, ◌<◌, false, cond, ◌&&◌, ◌||◌, not, ltb, List, [], ◌∷◌, Some, None, Ok, Err, Option, Result, sym, refl, ap, ◌∙◌, ⊎_elim, arith}
 use Rattle.std.proofs.ByRecursion.{all-has}
 use Rattle.std.proofs.lemmas.Slice.Eq.{bytes_eq-Decides}
-use Rattle.std.proofs.lemmas.Bool.{lt-ltb, le-ltb, ltb-true, ltb-false, cond-true, cond-false, cases_Bool, cases_order, and_from, both_ways, or_parts, or_left}
-use Rattle.std.specs.List.{ContainsAt, AllByRecursion}
+use Rattle.std.proofs.lemmas.Bool.{lt-ltb, ltb-true, ltb-false, cond-true, cond-false, cases_Bool, cases_order, and_from, both_ways, or_parts}
+use Rattle.std.specs.Iterator.{YieldsFirstBy, MakesProgress, at_most}
+use Rattle.std.specs.List.{ContainsAt, AllByRecursion, find, list_any}
+use Rattle.std.specs.Option.{option_map}
 use Rattle.std.specs.Str.{bytes_eq}
-use Rattle.words.specs.Repeats.{start, seen_before, repeat_in, AllDiffer}
-use Rattle.words.specs.Words.{WordV, Place, word, word_at, next, over, words, words_left, lengthened}
+use Rattle.text.specs.Faults.{fault}
 use Rattle.text.specs.declared.faults.LineFault.{LineFault}
-use Rattle.words.proofs.Splits.{words_left_more, words_left_none}
+use Rattle.text.specs.declared.faults.Wrong.TheVariants as wrong
+use Rattle.words.specs.Repeats.{seen_before, repeat_in, AllDiffer}
+use Rattle.words.specs.Words.{WordV, Place, word, word_at, word_seen, place, next, over, words_left, is_name, all_names}
+use Rattle.words.specs.declared.Word.{Word}
+use Rattle.words.specs.declared.Words.{Words}
+use Rattle.words.proofs.Splits.{words_left_more, words_left_none, reach, reach_falls}
 
--- a place that answers no word is behind the last
-pub none_left : (p : Place) (e : LineFault) → Err e ≡ word_at p → words_left p ≡ []
-none_left p e is =
+-- a word that is answered is the first of those that are left
+pub left_more : (p q : Place) → q ≡ next p → (w : WordV) → Ok w ≡ word_at p → words_left p ≡ w ∷ words_left q
+left_more p q on w is =
     ⊎_elim
-    (λ past. words_left_none p (ltb-true _ _ past))
-    (λ here. absurd (let z : ◌≡◌ {A = ℕ} 0 1 = cc (is ∙ cond-false _ _ _ here) in omega arith))
+    (λ past. absurd (let z : ◌≡◌ {A = ℕ} 0 1 = cc (is ∙ cond-true _ _ _ past) in omega arith))
+    (λ here.
+    let same : ◌≡◌ {A = WordV} w (word p) = cc (is ∙ cond-false _ _ _ here) in
+    words_left_more p (ltb-false _ _ here) ∙ (λ i. sym same i ∷ words_left (sym on i)))
     (cases_Bool (over p))
 
-module _ (p q : Place) (on : q ≡ next p) (w : WordV) (is : Ok w ≡ word_at p) where
-  more : p.at ≤ length p.text
-  more =
+-- What the next word is, and the place behind it.
+module _ (s t : Words) (on : place t ≡ next (place s)) where
+  -- it is the first of those that are left, and behind the last there is none
+  pub yields_first : (r : Option Word) → option_map word_seen r ≡ cond (over (place s)) None (Some (word (place s))) → YieldsFirstBy word_seen (λ w. words_left (place w)) s r t
+  yields_first None is =
       ⊎_elim
-      (λ past. absurd (let z : ◌≡◌ {A = ℕ} 0 1 = cc (is ∙ cond-true _ _ _ past) in omega arith))
-      (λ here. ltb-false _ _ here)
-      (cases_Bool (over p))
-
-  -- a word that is answered is the first of those that are left
-  pub left_more : words_left p ≡ w ∷ words_left q
-  left_more =
+      (λ past.
+      let none = words_left_none (place s) (ltb-true _ _ past) in
+      (none, ap words_left (on ∙ cond-true (over (place s)) (place s) _ past) ∙ none))
+      (λ here. absurd (let z : ◌≡◌ {A = ℕ} 0 1 = cc (is ∙ cond-false _ _ _ here) in omega arith))
+      (cases_Bool (over (place s)))
+  yields_first (Some x) is =
       ⊎_elim
       (λ past. absurd (let z : ◌≡◌ {A = ℕ} 0 1 = cc (is ∙ cond-true _ _ _ past) in omega arith))
       (λ here.
-      let same : ◌≡◌ {A = WordV} w (word p) = cc (is ∙ cond-false _ _ _ here) in
-      words_left_more p more ∙ (λ i. sym same i ∷ words_left (sym on i)))
-      (cases_Bool (over p))
+      let same : ◌≡◌ {A = WordV} (word_seen x) (word (place s)) = cc (is ∙ cond-false _ _ _ here) in
+      words_left_more (place s) (ltb-false _ _ here) ∙ (λ i. sym same i ∷ words_left (sym on i)))
+      (cases_Bool (over (place s)))
 
-  -- what is asked of all words is settled by this one, or left to the others
-  pub seen_here : (column : ℕ) (bytes : List ℕ) → w.column < column → bytes_eq w.bytes bytes ≡ true → seen_before (words_left p) column bytes ≡ true
-  seen_here column bytes lt same = ap (λ ws. seen_before ws column bytes) left_more ∙ or_left _ _ (and_from _ _ (lt-ltb _ _ lt) same)
+-- one of the words stands before the column and has the bytes
+pub seen_among : (ws : List WordV) (column : ℕ) (bytes : List ℕ) → list_any (λ w. ltb w.column column && bytes_eq w.bytes bytes) ws ≡ seen_before ws column bytes
+seen_among [] column bytes = refl
+seen_among (w ∷ ws) column bytes = ap (λ b. (ltb w.column column && bytes_eq w.bytes bytes) || b) (seen_among ws column bytes)
 
-  pub seen_more : (column : ℕ) (bytes : List ℕ) → (ltb w.column column && bytes_eq w.bytes bytes) ≡ false → seen_before (words_left q) column bytes ≡ seen_before (words_left p) column bytes
-  seen_more column bytes new = sym (ap (λ ws. seen_before ws column bytes) left_more ∙ ap (λ t. t || seen_before (words_left q) column bytes) new)
-
-  -- the words of the whole text are those from the place `s`, which another name `t` has too
-  module _ (s t : Place) (is-start : t ≡ s) where
-    asked : seen_before (words_left t) w.column w.bytes ≡ seen_before (words_left s) w.column w.bytes
-    asked = ap (λ x. seen_before (words_left x) w.column w.bytes) is-start
-
-    pub first_here : true ≡ seen_before (words_left t) w.column w.bytes → Some w.column ≡ repeat_in (words_left s) (words_left p)
-    first_here seen = sym (ap (repeat_in (words_left s)) left_more ∙ cond-true _ _ _ (sym (seen ∙ asked)))
-
-    pub first_more : false ≡ seen_before (words_left t) w.column w.bytes → repeat_in (words_left s) (words_left q) ≡ repeat_in (words_left s) (words_left p)
-    first_more new = sym (ap (repeat_in (words_left s)) left_more ∙ cond-false _ _ _ (sym (new ∙ asked)))
-
-length_lengthened : (b c : ℕ) (ws : List WordV) (n : ℕ) → length ws ≤ n + 1 → length (lengthened b c ws) ≤ n + 1
-length_lengthened b c [] n h = omega arith
-length_lengthened b c (w ∷ ws) n h = h
-
--- a text has at most one word more than it has bytes
-length_words : (c : ℕ) (xs : List ℕ) → length (words c xs) ≤ length xs + 1
-length_words c [] = omega arith
-length_words c (b ∷ xs) =
-    let fewer = length_words (c + 1) xs in
+-- the first of the words that stands further left among `all`
+pub repeat_found : (all ws : List WordV) → option_map (λ w. w.column) (find (λ w. seen_before all w.column w.bytes) ws) ≡ repeat_in all ws
+repeat_found all [] = refl
+repeat_found all (w ∷ ws) =
     ⊎_elim
-    (λ space. simp (cond-true (eqb b 32) (record { bytes = []; column = c } ∷ words (c + 1) xs) (lengthened b c (words (c + 1) xs)) space) (omega arith))
-    (λ other. simp (cond-false (eqb b 32) (record { bytes = []; column = c } ∷ words (c + 1) xs) (lengthened b c (words (c + 1) xs)) other) (length_lengthened b c (words (c + 1) xs) (suc (length xs)) (omega arith)))
-    (cases_Bool (eqb b 32))
+    (λ seen. ap (option_map (λ u. u.column)) (cond-true _ (Some w) _ seen) ∙ sym (cond-true _ (Some w.column) (repeat_in all ws) seen))
+    (λ new. ap (option_map (λ u. u.column)) (cond-false _ (Some w) _ new) ∙ repeat_found all ws ∙ sym (cond-false _ (Some w.column) (repeat_in all ws) new))
+    (cases_Bool (seen_before all w.column w.bytes))
 
-pub few : (text : List ℕ) → length (words_left (start text)) ≤ length text + 1
-few text = simp (cond-false (ltb (length text) 0) [] (words 1 text) (le-ltb (length text) 0 (omega arith))) (length_words 1 text)
+-- the first of the words that is no name is at fault
+abbrev pub fault_of : Option WordV → Result (Unit {0}) LineFault
+fault_of None = Ok tt
+fault_of (Some w) = Err (fault wrong.Word w.column)
+
+pub names_by_find : (ws : List WordV) → fault_of (find (λ w. not (is_name w.bytes)) ws) ≡ all_names ws
+names_by_find [] = refl
+names_by_find (w ∷ ws) =
+    ⊎_elim
+    (λ good. ap fault_of (cond-false _ (Some w) _ (ap not good)) ∙ names_by_find ws ∙ sym (cond-true _ (all_names ws) _ good))
+    (λ bad. ap fault_of (cond-true _ (Some w) _ (ap not bad)) ∙ sym (cond-false _ (all_names ws) _ bad))
+    (cases_Bool (is_name w.bytes))
 
 -- of the words `ws`, none stands further left among `all`
 unrepeated : (all ws : List WordV) → repeat_in all ws ≡ None → AllByRecursion (λ w. seen_before all w.column w.bytes ≡ false) ws

@@ -5,7 +5,6 @@ use Rattle.std.proofs.lemmas.Bool.{lt-ltb, le-ltb, cond-true, cond-false, cases_
 use Rattle.std.specs.List.{prefix_len}
 use Rattle.words.specs.Words.{WordV, Place, no_space, lengthened, words, words_left, word, word_length, next, over, column, is_name, all_names, name_at, bind}
 use Rattle.text.specs.Faults.{fault}
-use Rattle.text.specs.declared.faults.LineFault.{LineFault}
 use Rattle.text.specs.declared.faults.Wrong.TheVariants as wrong
 
 -- the words behind a first one of `n` bytes
@@ -97,12 +96,4 @@ module _ (p q : Place) (on : q ≡ next p) (more : p.at ≤ length p.text) where
       ⊎_elim
       (λ good. sym (all_named ∙ cond-true _ _ _ good))
       (λ bad. absurd (let z : ◌≡◌ {A = ℕ} 0 1 = cc (is ∙ named ∙ cond-false _ _ _ bad) in omega arith))
-      (cases_Bool (is_name (word p).bytes))
-
-  -- one that is none settles it
-  pub names_stop : (e : LineFault) → Err e ≡ name_at p → Err e ≡ all_names (words_left p)
-  names_stop e is =
-      ⊎_elim
-      (λ good. absurd (let z : ◌≡◌ {A = ℕ} 0 1 = cc (is ∙ named ∙ cond-true _ _ _ good) in omega arith))
-      (λ bad. (let same : ◌≡◌ {A = LineFault} e (fault wrong.Word (column p)) = cc (is ∙ named ∙ cond-false _ _ _ bad) in ap Err same) ∙ sym (all_named ∙ cond-false _ _ _ bad))
       (cases_Bool (is_name (word p).bytes))

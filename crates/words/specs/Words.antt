@@ -1,7 +1,7 @@
 -- The words of a line: what stands between its single spaces, after the key.
-use Rattle.std.specs.Prelude.{ℕ, ◌+◌, ◌-◌, ◌*◌, Bool, true, cond, not, ◌&&◌, ◌||◌, List, [], ◌∷◌, length, take, drop, Some, None, Ok, Err, fold, Option, Result, ◌==◌, nat_le, nat_lt, slice_index}
+use Rattle.std.specs.Prelude.{ℕ, ◌+◌, ◌-◌, ◌*◌, Bool, cond, not, ◌&&◌, ◌||◌, List, [], ◌∷◌, length, take, drop, Some, None, Ok, Err, fold, Option, Result, ◌==◌, nat_le, nat_lt, slice_index}
 use Rattle.std.specs.Result.{result_map_both}
-use Rattle.std.specs.List.{prefix_len}
+use Rattle.std.specs.List.{list_all, prefix_len}
 use Rattle.text.specs.Faults.{fault}
 use Rattle.keys.specs.Keys.{line_with}
 use Rattle.text.specs.declared.faults.LineFault.{LineFault}
@@ -69,8 +69,7 @@ nothing_at p = cond (over p) (Ok tt) (Err (fault wrong.Word (column p)))
 
 -- All of the bytes pass.
 abbrev pub every : (ℕ → Bool) → List ℕ → Bool
-every p [] = true
-every p (x ∷ xs) = p x && every p xs
+every p bytes = list_all p bytes
 
 abbrev pub digit : ℕ → Bool
 digit b = nat_le 48 b && nat_le b 57

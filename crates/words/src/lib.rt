@@ -2,13 +2,15 @@
 
 #![tactic(auto)]
 
-ghost use Rattle.std.specs.Prelude.{◌≡◌, ◌≤◌, length};
+ghost use Rattle.std.specs.Prelude.{◌≡◌, ◌+◌, ◌-◌, ◌≤◌, false, cond, length, Some, None};
+ghost use Rattle.std.specs.Iterator.{YieldsFirstBy, at_most};
+ghost use Rattle.std.specs.Option.{option_map};
 ghost use Rattle.std.specs.List.{prefix_len};
 ghost use Rattle.std.specs.Str.{bytes_eq};
 ghost use Rattle.text.specs.Faults.{fault};
 ghost use Rattle.text.specs.declared.faults.Wrong.TheVariants as wrong;
 ghost use Rattle.words.specs.Repeats.{start};
-ghost use Rattle.words.specs.Words.{place, next, seen, word_at, name_at, number_at, nothing_at, no_space, name_byte, is_name, digit, number_length, number_of, first_place, over, column_behind, rest_at, words_left, all_names};
+ghost use Rattle.words.specs.Words.{place, word, word_seen, column, next, seen, word_at, name_at, number_at, nothing_at, no_space, name_byte, is_name, number_length, number_of, first_place, over, column_behind, rest_at, words_left, all_names};
 
 pub mod repeats;
 
@@ -41,21 +43,12 @@ pub struct Words<'a> {
     at: usize,
 }
 
-fn is_no_space(byte: u8) -> bool
-    ensures every_byte_but_the_space { result ≡ no_space byte }
-{
-    byte != b' '
-}
-
+// How many bytes stand in front of the first space, or in the whole text where there is none.
 fn word_run(text: &[u8]) -> usize
     ensures the_bytes_before_the_first_space { result ≡ prefix_len no_space text.now }
     ensures within_the_text { result ≤ length text.now }
 {
-    let mut n = 0;
-    while n < text.len() && is_no_space(text[n]) {
-        n += 1;
-    }
-    n
+    text.iter().take_while(|&&byte| byte != b' ').count()
 }
 
 // Whether the bytes are those of this word.
@@ -68,31 +61,14 @@ pub fn is_word(bytes: &[u8], word: &[u8]) -> bool
 fn is_name_byte(byte: u8) -> bool
     ensures a_byte_of_a_name { result ≡ name_byte byte }
 {
-    match byte {
-        b'a'..=b'z' | b'A'..=b'Z' | b'0'..=b'9' | b'_' | b'.' | b'[' | b']' => true,
-        _ => false,
-    }
+    byte.is_ascii_alphanumeric() || matches!(byte, b'_' | b'.' | b'[' | b']')
 }
 
 // Whether the bytes are a name: 1 to 16 letters, digits, underscores, full stops or square brackets.
 pub fn is_name(bytes: &[u8]) -> bool
     ensures whether_it_is_a_name { result ≡ is_name bytes.now }
 {
-    if bytes.is_empty() || bytes.len() > LONGEST_NAME {
-        return false;
-    }
-    for byte in bytes {
-        if !is_name_byte(*byte) {
-            return false;
-        }
-    }
-    true
-}
-
-fn is_digit(byte: u8) -> bool
-    ensures a_decimal_digit { result ≡ digit byte }
-{
-    b'0' <= byte && byte <= b'9'
+    (1..=LONGEST_NAME).contains(&bytes.len()) && bytes.iter().all(|&byte| is_name_byte(byte))
 }
 
 // Whether the bytes, if they are digits, are a number: one to three, and the first of several is not 0.
@@ -114,11 +90,11 @@ pub fn parse_number(bytes: &[u8]) -> Option<u16>
         return None;
     }
     let mut value: u16 = 0;
-    for byte in bytes {
-        if !is_digit(*byte) {
+    for &byte in bytes {
+        if !byte.is_ascii_digit() {
             return None;
         }
-        value = value * 10 + u16::from(*byte - b'0');
+        value = value * 10 + u16::from(byte - b'0');
     }
     Some(value)
 }
@@ -127,10 +103,7 @@ pub fn parse_number(bytes: &[u8]) -> Option<u16>
 fn bad_word(column: usize) -> LineFault
     ensures a_word_at_fault { result ≡ fault wrong.Word column }
 {
-    LineFault {
-        wrong: Wrong::Word,
-        column,
-    }
+    Wrong::Word.at(column)
 }
 
 impl<'a> Words<'a> {
@@ -163,6 +136,14 @@ impl<'a> Words<'a> {
         self.at > self.text.len()
     }
 
+    // The column where the next word begins.
+    fn column(&self) -> usize
+        requires a_word_is_left { over (place self.now) ≡ false }
+        ensures where_the_next_word_begins { result ≡ column (place self.now) }
+    {
+        self.before as usize + self.at + 1
+    }
+
     // The column just behind the line.
     fn end_column(&self) -> usize
         ensures just_behind_the_line { result ≡ column_behind (place self.now) }
@@ -170,22 +151,28 @@ impl<'a> Words<'a> {
         self.before as usize + self.text.len() + 1
     }
 
+    // The next word, or none behind the last.
+    fn take_word(&mut self) -> Option<Word<'a>>
+        ensures the_next_word_or_none_behind_the_last { option_map word_seen result ≡ cond (over (place self.old)) None (Some (word (place self.old))) }
+        ensures where_the_next_begins { place self.new ≡ next (place self.old) }
+    {
+        let left = self.text.get(self.at..)?;
+        let n = word_run(left);
+        let word = Word {
+            bytes: &left[..n],
+            column: self.column(),
+        };
+        self.at += n + 1;
+        Some(word)
+    }
+
     // The next word, or the fault that it is missing.
     pub fn next_word(&mut self) -> Result<Word<'a>, LineFault>
         ensures the_word_or_that_it_is_missing { seen result ≡ word_at (place self.old) }
         ensures where_the_next_begins { place self.new ≡ next (place self.old) }
     {
-        if self.at > self.text.len() {
-            return Err(bad_word(self.end_column()));
-        }
-        let left = &self.text[self.at..];
-        let n = word_run(left);
-        let column = self.before as usize + self.at + 1;
-        self.at = self.at + n + 1;
-        Ok(Word {
-            bytes: &left[0..n],
-            column,
-        })
+        let missing = bad_word(self.end_column());
+        self.take_word().ok_or(missing)
     }
 
     // The next word, which has to be a name.
@@ -207,13 +194,11 @@ impl<'a> Words<'a> {
         ensures where_the_next_begins { place self.new ≡ next (place self.old) }
     {
         let word = self.next_word()?;
-        match parse_number(word.bytes) {
-            Some(value) => Ok(Number {
-                value,
-                column: word.column,
-            }),
-            None => Err(bad_word(word.column)),
-        }
+        let value = parse_number(word.bytes).ok_or(bad_word(word.column))?;
+        Ok(Number {
+            value,
+            column: word.column,
+        })
     }
 
     // No word may be left.
@@ -223,7 +208,7 @@ impl<'a> Words<'a> {
         if self.is_over() {
             Ok(())
         } else {
-            Err(bad_word(self.before as usize + self.at + 1))
+            Err(bad_word(self.column()))
         }
     }
 
@@ -231,13 +216,11 @@ impl<'a> Words<'a> {
     pub fn rest(&self) -> Result<Word<'a>, LineFault>
         ensures what_is_left_or_that_it_is_missing { seen result ≡ rest_at (place self.now) }
     {
-        if self.is_over() {
-            return Err(bad_word(self.end_column()));
-        }
-        let column = self.before as usize + self.at + 1;
+        let missing = bad_word(self.end_column());
+        let bytes = self.text.get(self.at..).ok_or(missing)?;
         Ok(Word {
-            bytes: &self.text[self.at..],
-            column,
+            bytes,
+            column: self.column(),
         })
     }
 
@@ -245,9 +228,22 @@ impl<'a> Words<'a> {
     pub fn only_names(mut self) -> Result<(), LineFault>
         ensures all_are_names_or_the_first_that_is_none { result ≡ all_names (words_left (place self.entry)) }
     {
-        while !self.is_over() {
-            self.name()?;
+        match self.find(|word| !is_name(word.bytes)) {
+            Some(word) => Err(bad_word(word.column)),
+            None => Ok(()),
         }
-        Ok(())
+    }
+}
+
+// The words that are left, from the next one on.
+impl<'a> Iterator for Words<'a> {
+    type Item = Word<'a>;
+
+    ghost next_gives = { YieldsFirstBy word_seen (λ words. words_left (place words)) };
+
+    ghost remaining = { λ words. at_most (length words.text.now + 1 - words.at) };
+
+    fn next(&mut self) -> Option<Word<'a>> {
+        self.take_word()
     }
 }

@@ -9,24 +9,14 @@ use crate::{Words, is_word};
 pub fn count_words(text: &[u8]) -> usize
     ensures how_many_words_the_text_has { result ≡ length (words_left (start text.now)) }
 {
-    let mut words = Words::within(text);
-    let mut n = 0;
-    while let Ok(_) = words.next_word() {
-        n += 1;
-    }
-    n
+    Words::within(text).count()
 }
 
 // Whether one of the words that are left begins before the column and has these bytes.
 fn is_seen_before(mut words: Words<'_>, column: usize, bytes: &[u8]) -> bool
     ensures whether_such_a_word_stands_before_the_column { result ≡ seen_before (words_left (place words.entry)) column bytes.now }
 {
-    while let Ok(word) = words.next_word() {
-        if word.column < column && is_word(word.bytes, bytes) {
-            return true;
-        }
-    }
-    false
+    words.any(|word| word.column < column && is_word(word.bytes, bytes))
 }
 
 // The column of the first word that stands further left in the text too.
@@ -34,11 +24,7 @@ pub fn first_repeat(text: &[u8]) -> Option<usize>
     ensures the_column_of_the_first_word_that_stands_further_left_too { result ≡ repeat_in (words_left (start text.now)) (words_left (start text.now)) }
     ensures no_repeat_means_all_differ { result ≡ None → AllDiffer (words_left (start text.now)) }
 {
-    let mut words = Words::within(text);
-    while let Ok(word) = words.next_word() {
-        if is_seen_before(Words::within(text), word.column, word.bytes) {
-            return Some(word.column);
-        }
-    }
-    None
+    Words::within(text)
+        .find(|word| is_seen_before(Words::within(text), word.column, word.bytes))
+        .map(|word| word.column)
 }

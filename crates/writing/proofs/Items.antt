@@ -1,5 +1,5 @@
 -- Reading at a place and the words that are left there: a word, a name, a number, several of them, and nothing.
-use Rattle.std.proofs.Common.{◌≡◌, ℕ, true, false, cond, List, [], ◌∷◌, length, drop, Some, None, Ok, Err, Option, Result, sym, refl, ap, ◌∙◌, subst, ⊎_elim, arith}
+use Rattle.std.proofs.Common.{◌≡◌, ℕ, true, false, cond, List, [], ◌∷◌, length, drop, Some, None, Ok, Err, Option, Result, sym, refl, ap, ◌∙◌, subst, ⊎_elim}
 use Rattle.std.proofs.lemmas.Bool.{ltb-false, cond-true, cond-false, cases_Bool}
 use Rattle.text.specs.Faults.{fault}
 use Rattle.text.specs.declared.faults.LineFault.{LineFault}
@@ -8,10 +8,11 @@ use Rattle.words.proofs.Splits.{words_left_more}
 use Rattle.words.specs.Words.{WordV, Place, over, column, column_behind, word, next, bind, word_at, name_at, number_at, nothing_at, number_of, number_or, is_name, words}
 use Rattle.words.specs.declared.Number.{Number}
 use Rattle.line.specs.Reading.{last}
+use Rattle.line.specs.Reading as reading
 use Rattle.writing.specs.Said.{texts}
 use Rattle.writing.specs.Sound.{Named, Short}
 use Rattle.writing.specs.Written.{written_number}
-use Rattle.writing.proofs.Oks.{bind_ok, first_ok, second_ok, same_ok, go_on, carried}
+use Rattle.writing.proofs.Oks.{bind_ok, first_ok, second_ok, same_ok, go_on}
 use Rattle.writing.proofs.Spaces.{left}
 use Rattle.writing.proofs.Numbers.{number_read, number_written}
 
@@ -42,7 +43,7 @@ pub record WordGiven (p : Place) (w : List ℕ) (ws : List (List ℕ)) : Type 0 
 pub gave_word : (p : Place) (w : List ℕ) (ws : List (List ℕ)) → left p ≡ w ∷ ws → WordGiven p w ws
 gave_word p w ws is =
     ⊎_elim
-    (λ past. absurd (let z : ◌≡◌ {A = ℕ} 0 1 = cc (sym (left_none p past) ∙ is) in omega arith))
+    (λ past. cc (sym (left_none p past) ∙ is))
     (λ more.
     let first : (word p).bytes ∷ left (next p) ≡ w ∷ ws = sym (left_more p more) ∙ is in
     record {
@@ -63,7 +64,7 @@ pub gave_last : {A : Type 0} (p : Place) (read : A) → left p ≡ [] → last p
 gave_last p read is =
     ⊎_elim
     (λ past. go_on (nothing_at p) (λ _. Ok read) tt (cond-true (over p) (Ok tt) (Err (fault wrong.Word (column p))) past))
-    (λ more. absurd (let z : ◌≡◌ {A = ℕ} 0 1 = cc (sym (left_more p more) ∙ is) in omega arith))
+    (λ more. cc (sym (left_more p more) ∙ is))
     (cases_Bool (over p))
 
 -- something that one word says: `what` was read says it, `write` is its word, and `good` says which can be read
@@ -106,7 +107,7 @@ a_name = record {
 
 number_ok : (c : ℕ) (o : Option ℕ) (n : Number) → number_or c o ≡ Ok n → o ≡ Some n.value
 number_ok c (Some value) n is = ap (λ m. Some m.value) (same_ok (record { value = value; column = c }) n is)
-number_ok c None n is = absurd (let z : ◌≡◌ {A = ℕ} 0 1 = cc in omega arith)
+number_ok c None n is = cc
 
 abbrev numbered_or : WordV → Result Number LineFault
 numbered_or w = number_or w.column (number_of w.bytes)
@@ -131,27 +132,21 @@ a_number = record {
 
 -- one of them, and nothing more
 module _ {X C : Type 0} {item : Place → Result X LineFault} {what : X → C} {write : C → List ℕ} {good : C → Type 0} (one : Item item what write good) where
-  abbrev pub one_at : Place → Result X LineFault
-  one_at p = bind (item p) (λ a. last (next p) a)
-
-  pub one_took : (p : Place) (x : X) → one_at p ≡ Ok x → (left p ≡ write (what x) ∷ []) × good (what x)
+  pub one_took : (p : Place) (x : X) → reading.one item p ≡ Ok x → (left p ≡ write (what x) ∷ []) × good (what x)
   one_took p x is =
       let first = bind_ok (item p) (λ a. last (next p) a) x is in
       let ends = took_last (next p) first.0 x first.2 in
       let took = one.took p first.0 first.1 in
       subst (λ x. (left p ≡ write (what x) ∷ []) × good (what x)) ends.0 (leads (write (what first.0)) (left p) (left (next p)) [] took.0 ends.1, took.1)
 
-  pub one_gave : (p : Place) (c : C) → good c → left p ≡ write c ∷ [] → (x : X) × (one_at p ≡ Ok x) × (what x ≡ c)
+  pub one_gave : (p : Place) (c : C) → good c → left p ≡ write c ∷ [] → (x : X) × (reading.one item p ≡ Ok x) × (what x ≡ c)
   one_gave p c fine is =
       let given = one.gave p c [] fine is in
       (given.x, go_on (item p) (λ a. last (next p) a) given.x given.is ∙ gave_last (next p) given.x given.rest, given.says)
 
   -- two of them, which may differ
   module _ {Y D : Type 0} {item' : Place → Result Y LineFault} {what' : Y → D} {write' : D → List ℕ} {good' : D → Type 0} (two : Item item' what' write' good') where
-    abbrev pub two_at : Place → Result (X × Y) LineFault
-    two_at p = bind (item p) (λ a. bind (item' (next p)) (λ b. last (next (next p)) (a, b)))
-
-    pub two_took : (p : Place) (x : X × Y) → two_at p ≡ Ok x → (left p ≡ write (what x.0) ∷ write' (what' x.1) ∷ []) × (good (what x.0) × good' (what' x.1))
+    pub two_took : (p : Place) (x : X × Y) → reading.two item item' p ≡ Ok x → (left p ≡ write (what x.0) ∷ write' (what' x.1) ∷ []) × (good (what x.0) × good' (what' x.1))
     two_took p x is =
         let first = bind_ok (item p) (λ a. bind (item' (next p)) (λ b. last (next (next p)) (a, b))) x is in
         let second = bind_ok (item' (next p)) (λ b. last (next (next p)) (first.0, b)) x first.2 in
@@ -163,7 +158,7 @@ module _ {X C : Type 0} {item : Place → Result X LineFault} {what : X → C} {
         (leads (write' (what' second.0)) (left (next p)) (left (next (next p))) [] b.0 ends.1) in
         subst (λ x. (left p ≡ write (what x.0) ∷ write' (what' x.1) ∷ []) × (good (what x.0) × good' (what' x.1))) ends.0 (words, (a.1, b.1))
 
-    pub two_gave : (p : Place) (c : C) (d : D) → good c → good' d → left p ≡ write c ∷ write' d ∷ [] → (x : X × Y) × (two_at p ≡ Ok x) × (what x.0 ≡ c) × (what' x.1 ≡ d)
+    pub two_gave : (p : Place) (c : C) (d : D) → good c → good' d → left p ≡ write c ∷ write' d ∷ [] → (x : X × Y) × (reading.two item item' p ≡ Ok x) × (what x.0 ≡ c) × (what' x.1 ≡ d)
     two_gave p c d fine fine' is =
         let a = one.gave p c (write' d ∷ []) fine is in
         let b = two.gave (next p) d [] fine' a.rest in (
@@ -193,8 +188,8 @@ module _ {X C : Type 0} {item : Place → Result X LineFault} {what : X → C} {
       leads (write (what first.0)) (left p) (left (next p)) (write (what second.0) ∷ write (what third.0) ∷ []) a.0
       (leads (write (what second.0)) (left (next p)) (left (next (next p))) (write (what third.0) ∷ []) b.0
       (leads (write (what third.0)) (left (next (next p))) (left (next (next (next p)))) [] d.0 ends.1)) in
-      carried (λ x. (left p ≡ write (what x.0) ∷ write (what x.1) ∷ write (what x.2) ∷ []) × (good (what x.0) × good (what x.1) × good (what x.2)))
-      (first.0, second.0, third.0) x ends.0 (words, (a.1, b.1, d.1))
+      subst (λ x. (left p ≡ write (what x.0) ∷ write (what x.1) ∷ write (what x.2) ∷ []) × (good (what x.0) × good (what x.1) × good (what x.2)))
+      ends.0 (words, (a.1, b.1, d.1))
 
   pub three_gave : (p : Place) (c d e : C) → good c → good d → good e → left p ≡ write c ∷ write d ∷ write e ∷ []
       → (x : X × X × X) × (three_at p ≡ Ok x) × (what x.0 ≡ c) × (what x.1 ≡ d) × (what x.2 ≡ e)

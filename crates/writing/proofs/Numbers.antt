@@ -40,7 +40,7 @@ long ds is =
 
 some_ok : (b : Bool) (x y : ℕ) → cond b (Some x) None ≡ Some y → (b ≡ true) × (x ≡ y)
 some_ok true x y is = (refl, (cc))
-some_ok false x y is = absurd (let z : ◌≡◌ {A = ℕ} 0 1 = cc in omega arith)
+some_ok false x y is = cc
 
 pub number_read : (ds : List ℕ) (n : ℕ) → number_of ds ≡ Some n → (written_number n ≡ ds) × (n < 1000)
 number_read ds n is =

@@ -33,7 +33,7 @@ behind [] = []
 behind (b ∷ text) = text
 
 each_more : (b : ℕ) (ws : List (List ℕ)) (text : List ℕ) → each_spaced ws ≡ 32 ∷ text → each_spaced (opened false b ws) ≡ 32 ∷ b ∷ text
-each_more b [] text is = absurd (let z : ◌≡◌ {A = ℕ} 0 1 = cc in omega arith)
+each_more b [] text is = cc
 each_more b (w ∷ ws) text is = ap (λ l. 32 ∷ b ∷ behind l) is
 
 each_opened : (space : Bool) (b : ℕ) (ws : List (List ℕ)) (text : List ℕ) → (space ≡ true → b ≡ 32) → each_spaced ws ≡ 32 ∷ text → each_spaced (opened space b ws) ≡ 32 ∷ b ∷ text

@@ -32,7 +32,7 @@ use Rattle.writing.proofs.Items.{took_word, took_last, a_name, a_number, one_too
 
 -- the operator that was found is written so
 operator_first : (ops : List Operator) (w : List ℕ) (op : Operator) → first_of ops w ≡ Some op → w ≡ spelled op
-operator_first [] w op is = absurd (let z : ◌≡◌ {A = ℕ} 0 1 = cc in omega arith)
+operator_first [] w op is = cc
 operator_first (o ∷ ops) w op is =
     ⊎_elim
     (λ same.
@@ -75,7 +75,7 @@ after_took operator.Ite p f is =
 
 by_took : (o : Option Operator) (c : ℕ) (p : Place) (f : FormV) → form_by o c p ≡ Ok f → (op : Operator) × (o ≡ Some op) × (form_behind op p ≡ Ok f)
 by_took (Some op) c p f is = (op, refl, is)
-by_took None c p f is = absurd (let z : ◌≡◌ {A = ℕ} 0 1 = cc in omega arith)
+by_took None c p f is = cc
 
 form_took : (p : Place) (f : FormV) → form_at p ≡ Ok f → FormTook (left p) f
 form_took p f is =
@@ -190,7 +190,7 @@ known_ok file (Some p) k rest is =
     let got = first_ok (belongs file p.0) (Ok p) (fault wrong.Key 1) (k, rest) is in
     let same = same_ok p (k, rest) got.1 in
     (ap Some same, subst (λ q. belongs file q.0 ≡ true) same got.0)
-known_ok file None k rest is = absurd (let z : ◌≡◌ {A = ℕ} 0 1 = cc in omega arith)
+known_ok file None k rest is = cc
 
 pub nothing_is_lost : NothingIsLost
 nothing_is_lost file bytes rest k l known is =

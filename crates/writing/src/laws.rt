@@ -1,6 +1,7 @@
 // What ties writing to reading, as promises of a call.
 ghost use Rattle.writing.specs.Laws.{NothingIsLost, OnlySoundLinesAreRead, EveryLineCanBeKept, EveryByteMayStand, LinesComeApart};
 
+// It stands for laws about lines: the contract is the laws, and the call does nothing.
 pub fn laws_stand() -> u8
     ensures a_line_that_is_read_has_the_bytes_that_are_written { NothingIsLost }
     ensures a_line_that_is_read_says_something_sound { OnlySoundLinesAreRead }

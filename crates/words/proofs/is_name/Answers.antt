@@ -1,18 +1,16 @@
-use Rattle.std.proofs.Common.{sym}
+use Rattle.std.proofs.Common.{◌≡◌, true, leb, ◌&&◌, length, rules}
+use borrow.Author.Tests.{tests}
+use Rattle.std.proofs.lemmas.Iterator.{YieldsList-from_slice}
+use Rattle.std.proofs.lemmas.Iterator.Search.{all_from_yields_List}
 use Rattle.words.specs.Words.{name_byte}
-use Rattle.words.proofs.Everies.{every_more, every_fails, every_done}
-use Rattle.words.proofs.NameLaws.{not_a_name, a_name}
+use Rattle.words.proofs.NameLaws.{by_bytes}
 use Rattle.words.proofs.is_name.Goals as goal
 
-pub returns-then-not-is_name_byte : goal.returns-then-not-is_name_byte
-returns-then-not-is_name_byte c =
-    let fails = every_fails name_byte _ _ c.loop-byte.invariant c.loop-byte-test.true (sym c.if-not-is_name_byte.ensures.a_byte_of_a_name) in
-    record { whether_it_is_a_name = not_a_name c.args.bytes.now fails }
-
-pub loop-byte-preserved : goal.loop-byte-preserved
-loop-byte-preserved c = every_more name_byte _ _ c.loop-byte.invariant c.loop-byte-test.true (sym c.if-not-is_name_byte.ensures.a_byte_of_a_name)
-
-pub returns : goal.returns
-returns c =
-    let all = every_done name_byte _ _ c.loop-byte.invariant c.loop-byte-test.false in
-    record { whether_it_is_a_name = a_name c.args.bytes.now c.if-is_empty.ensures c.if-bytes-gt-LONGEST_NAME.false all }
+pub returns-then-contains : goal.returns-then-contains
+returns-then-contains c =
+    let bytes = c.args.bytes.now in
+    let fits : true ≡ (leb 1 (length bytes) && leb (length bytes) 16) = search rules in
+    record {
+      whether_it_is_a_name =
+          by_bytes bytes _ fits (all_from_yields_List name_byte _ _ c.all.result c.all.ensures.ran (YieldsList-from_slice bytes cc) (λ x b q k. search (rules, tests)));
+    }

@@ -1,34 +1,17 @@
-use Rattle.std.proofs.Common.{◌+◌, ◌&&◌, get_or, drop, sym, ap, ◌∙◌}
-use Rattle.std.proofs.lemmas.List.{drop_more, drop_all}
-use Rattle.std.proofs.lemmas.Bool.{and_left, and_right, and_from, lt-ltb, le-ltb}
-use Rattle.terms.specs.declared.Assignment.{Assignment}
+use Rattle.std.proofs.Common.{ltb, ◌&&◌, sym, ◌∙◌, ap, rules}
+use borrow.Author.Tests.{tests}
+use Rattle.std.proofs.lemmas.Bool.{lt-ltb}
+use Rattle.std.proofs.lemmas.Iterator.{YieldsList-from_slice}
+use Rattle.std.proofs.lemmas.Iterator.Search.{all_from_yields_List}
 use Rattle.precondition.specs.Writing.{all_there}
+use Rattle.precondition.proofs.Chains.{all_there_is}
 use Rattle.precondition.proofs.scratch.are_there.Goals as goal
 
-abbrev none : Assignment
-none = record { variable = 0; term = 0 }
-
-pub returns-then-set-count : goal.returns-then-set-count
-returns-then-set-count c =
+pub returns-then-formula-count : goal.returns-then-formula-count
+returns-then-formula-count c =
     record {
       whether_all_are_there =
-          sym (and_right _ _
-          (sym c.loop-set.invariant
-          ∙ ap (all_there c.args.count) (drop_more c.args.sets.now c.loop-set.set-index none c.loop-set-test.true)
-          ∙ and_left _ _ (le-ltb _ _ c.if-set-count.true)));
-    }
-
-pub loop-set-preserved : goal.loop-set-preserved
-loop-set-preserved c =
-    let rest = all_there c.args.count (drop (c.loop-set.set-index + 1) c.args.sets.now) in
-    sym (ap (all_there c.args.count) (drop_more c.args.sets.now c.loop-set.set-index none c.loop-set-test.true)
-    ∙ ap (λ b. b && rest) (lt-ltb (get_or c.args.sets.now c.loop-set.set-index none).term c.args.count c.if-set-count.false))
-    ∙ c.loop-set.invariant
-
-pub returns : goal.returns
-returns c =
-    record {
-      whether_all_are_there =
-          sym (and_from _ _ (lt-ltb c.args.formula c.args.count c.if-formula-count.false)
-          (sym c.loop-set.invariant ∙ ap (all_there c.args.count) (drop_all c.loop-set.set-index c.args.sets.now c.loop-set-test.false)));
+          all_from_yields_List (λ a. ltb a.term c.args.count) _ _ _ c.all.ensures.ran (YieldsList-from_slice c.args.sets.now (cc)) (λ x b q k. search (rules, tests))
+          ∙ all_there_is c.args.count c.args.sets.now
+          ∙ sym (ap (λ b. b && all_there c.args.count c.args.sets.now) (lt-ltb c.args.formula c.args.count c.if-formula-count.true));
     }

@@ -6,10 +6,10 @@ use Rattle.words.specs.Words.{bind}
 use Rattle.reading.specs.Files.{read_through}
 use Rattle.tables.specs.Lawful.{LawfulTerms, declared_by}
 use Rattle.tables.proofs.TermLaws.{lawful_no_terms}
-use Rattle.layered.specs.Answers.{protocol_seen}
-use Rattle.layered.specs.Lawful.{Lawful}
-use Rattle.layered.specs.Records.{ProtocolV}
-use Rattle.layered.specs.Records as protocol
+use Rattle.protocol.specs.Answers.{protocol_seen}
+use Rattle.protocol.specs.Lawful.{Lawful}
+use Rattle.protocol.specs.Records.{ProtocolV}
+use Rattle.protocol.specs.Records as protocol
 use Rattle.proposal.specs.Drafts.{draft_seen}
 use Rattle.proposal.specs.Lawful.{LawfulWith}
 use Rattle.proposal.specs.Reading.{Draft, begun, taken, ended, finished}

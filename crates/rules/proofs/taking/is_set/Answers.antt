@@ -1,11 +1,14 @@
-use Rattle.rules.proofs.RuleLaws.{set_here, set_later, set_nowhere}
+use Rattle.std.proofs.Common.{◌==◌, sym, ◌∙◌, rules}
+use Rattle.std.proofs.lemmas.Iterator.{YieldsList-from_slice}
+use Rattle.std.proofs.lemmas.Iterator.Search.{any_from_yields_List}
+use borrow.Author.Tests.{tests}
+use Rattle.rules.proofs.RuleLaws.{set_is_any}
 use Rattle.rules.proofs.taking.is_set.Goals as goal
 
-pub returns-then-a-variable : goal.returns-then-a-variable
-returns-then-a-variable c = record { whether_it_is_set = set_here _ _ _ c.loop-a.invariant c.loop-a-test.true c.if-a-variable.true }
-
-pub loop-a-preserved : goal.loop-a-preserved
-loop-a-preserved c = set_later _ _ _ c.loop-a.invariant c.loop-a-test.true c.if-a-variable.false
-
 pub returns : goal.returns
-returns c = record { whether_it_is_set = set_nowhere _ _ _ c.loop-a.invariant c.loop-a-test.false }
+returns c =
+    record {
+      whether_it_is_set =
+          any_from_yields_List (λ a. a.variable == c.args.variable) _ _ _ c.any.ensures.ran (YieldsList-from_slice c.args.sets.now cc) (λ x b q k. search (rules, tests))
+          ∙ sym (set_is_any c.args.variable c.args.sets.now);
+    }

@@ -1,9 +1,7 @@
-use Rattle.std.proofs.Common.{◌≡◌, ℕ, ◌<◌, length, get_or, drop, vec_items}
-use Rattle.terms.specs.Rules.{set_value}
+use Rattle.std.proofs.Common.{vec_items}
+use Rattle.std.specs.Slice.Iter.{iter_rest}
+use Rattle.terms.proofs.Assigned.{MadeBut}
 use Rattle.terms.proofs.firing.assign.Given as goal
 
--- the assignments from `i` on are made
-abbrev pub invariant-loop-i : goal.invariant-loop-i
-invariant-loop-i l =
-    (length (vec_items l.next) ≡ length l.state)
-    × ((v : ℕ) → v < length l.state → get_or (vec_items l.next) v 0 ≡ set_value l.values l.state (drop l.i l.sets) v)
+abbrev pub invariant-loop-set : goal.invariant-loop-set
+invariant-loop-set l = MadeBut l.values l.state l.sets (iter_rest l.set-iterator.iter) (vec_items l.next)

@@ -1,28 +1,27 @@
-use Rattle.std.proofs.Common.{Err, sym, ap, ◌∙◌}
-use Rattle.std.proofs.lemmas.Result.{err_from_is_err_and}
-use Rattle.std.proofs.lemmas.Bool.{ltb-false}
-use Rattle.words.specs.Words.{place, word_seen}
-use Rattle.words.proofs.Splits.{reach_falls, names_more, names_stop}
+use Rattle.std.proofs.Common.{not, Err, rules, ◌∙◌, sym, ap, refl}
+use borrow.Author.Tests.{tests}
+use Rattle.std.proofs.lemmas.Iterator.Search.{find_from_yields_List}
+use Rattle.std.proofs.lemmas.Iterator.Consumers.{YieldsList-from_first}
+use Rattle.std.specs.Option.{option_map}
+use Rattle.words.specs.Words.{place, word_seen, words_left, is_name}
+use Rattle.words.proofs.Repeated.{fault_of, names_by_find}
 use Rattle.words.proofs.Words.only_names.Goals as goal
 
-pub loop-self-smaller : goal.loop-self-smaller
-loop-self-smaller c =
-    reach_falls (place c.loop-self.self) (place c.name.new.self) c.name.ensures.where_the_next_begins
-    (ltb-false _ _ (sym c.loop-self-test.ensures.whether_no_word_is_left))
-
-pub loop-self-preserved : goal.loop-self-preserved
-loop-self-preserved c =
-    names_more (place c.loop-self.self) (place c.name.new.self) c.name.ensures.where_the_next_begins
-    (ltb-false _ _ (sym c.loop-self-test.ensures.whether_no_word_is_left)) (word_seen c.in_ok-name.field-0) c.in_ok-name.ensures.the_name_or_the_fault
-    ∙ c.loop-self.invariant
-
-pub returns-in_err-name : goal.returns-in_err-name
-returns-in_err-name c =
-    let p = err_from_is_err_and c.from_residual.result c.from_residual.ensures.1 in
+pub returns-in-Some : goal.returns-in-Some
+returns-in-Some c =
+    let all = words_left (place c.args.self) in
+    let found =
+    find_from_yields_List (λ w. not (is_name w.bytes)) c.find.new.self _ c.find.result c.find.ensures.ran
+    (YieldsList-from_first word_seen (λ w. words_left (place w)) all refl) (λ x b q k. search (rules, tests)) in
     record {
       all_are_names_or_the_first_that_is_none =
-          p.1 ∙ ap Err p.2
-          ∙ names_stop (place c.loop-self.self) (place c.name.new.self) c.name.ensures.where_the_next_begins
-          (ltb-false _ _ (sym c.loop-self-test.ensures.whether_no_word_is_left)) c.in_err-name.field-0.0 c.in_err-name.ensures.the_name_or_the_fault
-          ∙ c.loop-self.invariant;
+          ap Err c.bad_word.ensures.a_word_at_fault ∙ ap (λ o. fault_of (option_map word_seen o)) (sym c.in-Some.is) ∙ ap fault_of found ∙ names_by_find all;
     }
+
+pub returns-in-None : goal.returns-in-None
+returns-in-None c =
+    let all = words_left (place c.args.self) in
+    let found =
+    find_from_yields_List (λ w. not (is_name w.bytes)) c.find.new.self _ c.find.result c.find.ensures.ran
+    (YieldsList-from_first word_seen (λ w. words_left (place w)) all refl) (λ x b q k. search (rules, tests)) in
+    record { all_are_names_or_the_first_that_is_none = ap (λ o. fault_of (option_map word_seen o)) (sym c.in-None.is) ∙ ap fault_of found ∙ names_by_find all }

@@ -1,33 +1,19 @@
-use Rattle.std.proofs.Common.{◌≡◌, ℕ, sym, ap, ◌∙◌, arith}
-use Rattle.words.specs.Repeats.{start, repeat_in}
+use Rattle.std.proofs.Common.{◌≡◌, rules, ◌∙◌, sym, ap}
+use borrow.Author.Tests.{tests}
+use Rattle.std.proofs.lemmas.Iterator.Search.{find_from_yields_List}
+use Rattle.std.proofs.lemmas.Iterator.Consumers.{YieldsList-from_first}
+use Rattle.std.specs.Option.{option_map}
+use Rattle.words.specs.Repeats.{start, seen_before}
 use Rattle.words.specs.Words.{place, word_seen, words_left}
-use Rattle.words.proofs.Repeated.{first_here, first_more, none_left, all_differ}
+use Rattle.words.proofs.Repeated.{repeat_found, all_differ}
 use Rattle.words.proofs.repeats.first_repeat.Goals as goal
-
-pub returns-then-is_seen_before : goal.returns-then-is_seen_before
-returns-then-is_seen_before c =
-    record {
-      the_column_of_the_first_word_that_stands_further_left_too =
-          first_here (place c.loop-word.words) (place c.next_word.new.self) c.next_word.ensures.where_the_next_begins
-          (word_seen c.in-Ok.word) c.in-Ok.ensures.the_word_or_that_it_is_missing
-          (start c.args.text.now) (place c.within.result) c.within.ensures.the_first_word_begins_the_text
-          c.if-is_seen_before.ensures.whether_such_a_word_stands_before_the_column
-          ∙ c.loop-word.invariant;
-      no_repeat_means_all_differ = λ none. absurd (let z : ◌≡◌ {A = ℕ} 0 1 = cc none in omega arith);
-    }
-
-pub loop-word-preserved : goal.loop-word-preserved
-loop-word-preserved c =
-    first_more (place c.loop-word.words) (place c.next_word.new.self) c.next_word.ensures.where_the_next_begins
-    (word_seen c.in-Ok.word) c.in-Ok.ensures.the_word_or_that_it_is_missing
-    (start c.args.text.now) (place c.within.result) c.within.ensures.the_first_word_begins_the_text
-    c.if-is_seen_before.ensures.whether_such_a_word_stands_before_the_column
-    ∙ c.loop-word.invariant
 
 pub returns : goal.returns
 returns c =
     let all = words_left (start c.args.text.now) in
-    let none =
-    sym (ap (repeat_in all) (none_left (place c.loop-word.words) c.in_default.field-0 c.in_default.ensures.the_word_or_that_it_is_missing))
-    ∙ c.loop-word.invariant in
-    record { the_column_of_the_first_word_that_stands_further_left_too = none; no_repeat_means_all_differ = λ _. all_differ all (sym none) }
+    let found =
+    find_from_yields_List (λ w. seen_before all w.column w.bytes) c.find.new.self _ c.find.result c.find.ensures.ran
+    (YieldsList-from_first word_seen (λ w. words_left (place w)) all (ap words_left c.within.ensures.the_first_word_begins_the_text)) (λ x b q k. search (rules, tests)) in
+    let columns : c.map.result ≡ option_map (λ w. w.column) (option_map word_seen c.find.result) = search rules in
+    let is = columns ∙ ap (option_map (λ w. w.column)) found ∙ repeat_found all all in
+    record { the_column_of_the_first_word_that_stands_further_left_too = is; no_repeat_means_all_differ = λ none. all_differ all (sym is ∙ none) }

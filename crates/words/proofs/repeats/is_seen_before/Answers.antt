@@ -1,26 +1,20 @@
-use Rattle.std.proofs.Common.{sym, ◌∙◌}
-use Rattle.std.proofs.lemmas.Bool.{le-ltb, and_left, and_right}
-use Rattle.words.specs.Words.{place, word_seen}
-use Rattle.words.proofs.Repeated.{seen_here, seen_more}
+use Rattle.std.proofs.Common.{ltb, ◌&&◌, rules, ◌∙◌, refl}
+use borrow.Author.Tests.{tests}
+use Rattle.std.proofs.lemmas.Iterator.Search.{any_from_yields_List}
+use Rattle.std.proofs.lemmas.Iterator.Consumers.{YieldsList-from_first}
+use Rattle.std.specs.Str.{bytes_eq}
+use Rattle.words.specs.Words.{place, word_seen, words_left}
+use Rattle.words.proofs.Repeated.{seen_among}
 use Rattle.words.proofs.repeats.is_seen_before.Goals as goal
-use Rattle.words.proofs.repeats.is_seen_before.Goals.{else-word-column-via-then-word-column+else-is_word, else-word-column-via-else-word-column}
 
-pub returns-then-is_word : goal.returns-then-is_word
-returns-then-is_word c =
+pub returns : goal.returns
+returns c =
+    let column = c.args.column in
+    let bytes = c.args.bytes.now in
+    let all = words_left (place c.args.words) in
     record {
       whether_such_a_word_stands_before_the_column =
-          sym
-          (seen_here (place c.loop-word.words) (place c.next_word.new.self) c.next_word.ensures.where_the_next_begins (word_seen c.in-Ok.word) c.in-Ok.ensures.the_word_or_that_it_is_missing
-          c.args.column c.args.bytes.now c.if-word-column.true (sym c.if-is_word.ensures.whether_they_are_the_same))
-          ∙ c.loop-word.invariant;
+          any_from_yields_List (λ w. ltb w.column column && bytes_eq w.bytes bytes) c.any.new.self _ c.any.result c.any.ensures.ran
+          (YieldsList-from_first word_seen (λ w. words_left (place w)) all refl) (λ x b q k. search (rules, tests))
+          ∙ seen_among all column bytes;
     }
-
-pub loop-word-preserved : goal.loop-word-preserved
-loop-word-preserved c =
-    seen_more (place c.loop-word.words) (place c.next_word.new.self) c.next_word.ensures.where_the_next_begins (word_seen c.in-Ok.word) c.in-Ok.ensures.the_word_or_that_it_is_missing
-    c.args.column c.args.bytes.now
-    (elim c.else-word-column.branch [
-      | else-word-column-via-then-word-column+else-is_word w ↦ and_right _ _ (sym w.if-is_word.ensures.whether_they_are_the_same)
-      | else-word-column-via-else-word-column w ↦ and_left _ _ (le-ltb _ _ w.if-word-column.false)
-    ])
-    ∙ c.loop-word.invariant

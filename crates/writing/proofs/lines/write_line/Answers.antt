@@ -1,15 +1,15 @@
-use Rattle.std.proofs.Common.{vec_items}
+use Rattle.std.proofs.Common.{arith, subst, vec_items}
+use Rattle.std.proofs.lemmas.Grind.{common_steps}
 use Rattle.line.specs.Lines.{line_seen}
-use Rattle.writing.proofs.Appends.{line_appended, line_again}
+use Rattle.writing.specs.Appending.{Appended}
+use Rattle.writing.specs.Said.{said}
+use Rattle.writing.specs.Written.{written_line}
+use Rattle.writing.proofs.Taken.{nothing_is_lost}
 use Rattle.writing.proofs.lines.write_line.Goals as goal
 
-pub returns : goal.returns
-returns c =
-    let r = c.write_words.result in
+pub returns-clause-the_bytes_that_it_was_read_from : goal.returns-clause-the_bytes_that_it_was_read_from
+returns-clause-the_bytes_that_it_was_read_from c =
     let line = line_seen c.args.line in
-    let before = vec_items c.args.out.now in
-    let after = vec_items c.write_words.new.out in
-    let written =
-    line_appended r c.args.file line c.key.result before (vec_items c.write_key.new.out) after c.key.ensures.the_key_of_the_line
-    c.in_ok-write_key.ensures.the_key_and_its_equals_sign c.write_words.ensures.the_words_with_single_spaces in
-    record { the_line_from_what_it_says = written; the_bytes_that_it_was_read_from = line_again r c.args.file line before after written }
+    let Written : _ → Type 0 = λ bytes. Appended c.write_words.result (vec_items c.args.out.now) bytes (vec_items c.write_words.new.out) in
+    let written : Written (written_line c.args.file (said line)) = grind (arith, common_steps) in
+    λ bytes rest key known is. subst Written (nothing_is_lost c.args.file bytes rest key line known is) written

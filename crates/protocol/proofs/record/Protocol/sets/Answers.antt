@@ -1,21 +1,10 @@
-use Rattle.std.proofs.Common.{map, Some, ap, ◌∙◌}
-use Rattle.protocol.specs.Looking.{nth, sets_of_rule}
-use Rattle.protocol.specs.Views.{rule_seen, assignment_seen}
-use Rattle.protocol.proofs.Nths.{part_at, part_past}
+use Rattle.std.proofs.Common.{rules}
+use Rattle.protocol.proofs.Rows.{part_of_row}
+use Rattle.rules.specs.Views.{rule_seen}
+use Rattle.protocol.specs.Looking.{sets_of_rule}
 use Rattle.protocol.proofs.record.Protocol.sets.Goals as goal
 
-pub returns-then-i-rules : goal.returns-then-i-rules
-returns-then-i-rules c =
-    record {
-      the_assignments_of_the_rule =
-          ap (λ s. Some (map assignment_seen s)) c.as_slice.ensures.value ∙ part_at rule_seen sets_of_rule c.as_slice-rules.result.now c.args.i c.index-rules-i.result c.if-i-rules.true
-          ∙ ap (λ rows. nth (map sets_of_rule (map rule_seen rows)) c.args.i) c.as_slice-rules.ensures.value;
-    }
-
-pub returns-else-i-rules : goal.returns-else-i-rules
-returns-else-i-rules c =
-    record {
-      the_assignments_of_the_rule =
-          part_past rule_seen sets_of_rule c.as_slice-rules.result.now c.args.i c.if-i-rules.false
-          ∙ ap (λ rows. nth (map sets_of_rule (map rule_seen rows)) c.args.i) c.as_slice-rules.ensures.value;
-    }
+pub returns : goal.returns
+returns c =
+    let part = part_of_row rule_seen sets_of_rule c.deref.result.now c.args.i c.get.result c.get.ensures.lookup in
+    search rules

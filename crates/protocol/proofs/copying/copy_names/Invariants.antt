@@ -1,7 +1,0 @@
-use Rattle.std.proofs.Common.{◌≡◌, map, take, vec_items}
-use Rattle.names.specs.Names.{spelled}
-use Rattle.protocol.proofs.copying.copy_names.Given as goal
-
--- The first `i` are copied.
-abbrev pub invariant-loop-i : goal.invariant-loop-i
-invariant-loop-i l = map spelled (vec_items l.copies) ≡ map spelled (take l.i l.names)
