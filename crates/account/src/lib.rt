@@ -17,7 +17,8 @@ use text::faults::{FileFault, LineFault, Wrong, at_line};
 // How many keys there are.
 const KEYS: usize = 11;
 
-// The lines that were read, and how many of each key; whether the `end` line was among them. The keys are numbered from 0, so that
+// The lines that were read, and how many of each key; whether the `end` line was among them, which is asked before each line. The
+// keys are numbered from 0, so that
 // an array of counts by their numbers is the map from keys to counts.
 #[derive(Clone, Copy, Drop)]
 pub struct Tally {

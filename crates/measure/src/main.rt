@@ -26,10 +26,10 @@ fn table(heap: Global) -> Result<Vec<Term>, AllocError> {
 
 // The number that a word is, or the default if there is no word.
 fn number_or(word: Option<String>, default: u16) -> anyhow::Result<u16> {
-    match word {
-        Some(word) => Ok(word.as_str().parse::<u16>()?),
-        None => Ok(default),
-    }
+    let Some(word) = word else {
+        return Ok(default);
+    };
+    Ok(word.as_str().parse::<u16>()?)
 }
 
 fn run(rt: &HostRuntime) -> anyhow::Result<()> {

@@ -22,7 +22,7 @@ fn mark_arguments(marks: &mut [bool], term: Term)
     }
 }
 
-// A term that is marked has its arguments marked.
+// A term that is marked has its arguments marked. By index: the marks are written while the terms are gone through.
 fn pass_on(marks: &mut [bool], n: usize, term: Term)
     requires within { n < length marks.old }
     ensures its_arguments_are_marked_if_it_is { marks.new ≡ passed_on n term marks.old }

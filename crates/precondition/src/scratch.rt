@@ -62,7 +62,8 @@ impl Assignments<'_, '_> {
         note(draft, self.copies.terms.len(), term, number)
     }
 
-    // The terms of the formula, by ascending number.
+    // The terms of the formula, by ascending number. The marks come beside the part, since they are as many as a table may have
+    // terms.
     fn take_all(
         &self,
         heap: Global,

@@ -26,15 +26,15 @@ use words::{Number, Word, is_word};
 // At most this many invariants.
 const MOST_INVARIANTS: usize = 64;
 
-// A `proposal` line: the protocol's name, or its fault.
+// A `proposal` line: the protocol's name, or its fault. Beside that of a `protocol` line, whose name is compared with no other.
 fn take_name(own: &mut Name, heap: Global, protocol: &[u8], name: Word<'_>) -> Result<(), TakeFault>
     ensures the_name_or_the_fault { Came result (spelled own.new) (name_taken protocol.now (word_seen name.entry) (spelled own.old)) }
 {
     if !own.as_bytes().is_empty() {
-        return Err(TakeFault::Refused(Wrong::TooMany.at(1)));
+        return Err(Wrong::TooMany.at(1).into());
     }
     if !is_word(name.bytes, protocol) {
-        return Err(TakeFault::Refused(Wrong::AnotherProtocol.at(name.column)));
+        return Err(Wrong::AnotherProtocol.at(name.column).into());
     }
     *own = Name::copy_of(heap, name.bytes)?;
     Ok(())
@@ -114,7 +114,7 @@ impl Parts {
             | Line::Var { .. }
             | Line::Init { .. }
             | Line::Rule { .. }
-            | Line::Set { .. } => Err(TakeFault::Refused(Wrong::Key.at(1))),
+            | Line::Set { .. } => Err(Wrong::Key.at(1).into()),
         }
     }
 }

@@ -95,7 +95,7 @@ pub(crate) fn take_claim(
     let claim = claim_named(protocol, invariants, line)?;
     check_room(claims, MOST_CLAIMS)?;
     if !ascends(claims, claim) {
-        return Err(TakeFault::Refused(Wrong::NotAscending.at(1)));
+        return Err(Wrong::NotAscending.at(1).into());
     }
     claims.push(claim)?;
     Ok(())

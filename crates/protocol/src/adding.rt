@@ -29,7 +29,7 @@ fn take_name(name: &mut Name, heap: Global, word: Word<'_>) -> Result<(), TakeFa
     ensures the_name_or_that_there_is_one { Came result (spelled name.new) (name_taken (word_seen word.entry) (spelled name.old)) }
 {
     if !name.as_bytes().is_empty() {
-        return Err(TakeFault::Refused(Wrong::TooMany.at(1)));
+        return Err(Wrong::TooMany.at(1).into());
     }
     *name = Name::copy_of(heap, word.bytes)?;
     Ok(())
@@ -73,7 +73,7 @@ impl Parts {
                 .take_set(&self.variables, &self.terms, variable, term),
             Line::End => Ok(()),
             Line::Proposal { .. } | Line::Inv { .. } | Line::Cause { .. } => {
-                Err(TakeFault::Refused(Wrong::Key.at(1)))
+                Err(Wrong::Key.at(1).into())
             }
         }
     }

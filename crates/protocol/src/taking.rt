@@ -1,4 +1,5 @@
-// Taking the lines of a protocol file, one by one.
+// Taking the lines of a protocol file, one by one. Beside the reader of proposals, which holds a protocol and hands on the number of
+// the line.
 ghost use Rattle.std.specs.Prelude.{false};
 ghost use Rattle.protocol.specs.Reading.{Draft, ended, taken};
 ghost use Rattle.protocol.specs.Views.{draft_seen};

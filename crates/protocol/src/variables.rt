@@ -28,7 +28,7 @@ struct VariableRow {
     states: u64,
 }
 
-// The row of a new variable, or the fault of its line.
+// The row of a new variable, or the fault of its line. The two words come apart, as the line has them.
 fn row_of(
     variables: &VariableTable,
     types: &TypeTable,

@@ -7,7 +7,7 @@ use proposal::claims::Cause;
 use proposal::record::Proposal;
 use proposal::whole_file as proposal_file;
 use protocol::record::Protocol;
-use showing::{as_text, print_fault, read_or_empty, read_protocol};
+use showing::{as_text, open_file, print_fault, read_protocol};
 use std::io;
 
 // How many claims a proposal has, and how many for each kind of cause.
@@ -48,9 +48,7 @@ fn print_proposal(rt: &HostRuntime, proposal: &Proposal) -> io::Result<()> {
 }
 
 fn read_proposal(rt: &HostRuntime, protocol: &Protocol) -> io::Result<()> {
-    let text = read_or_empty(rt, "proposal.txt")?;
-    let bytes = text.len();
-    println!(rt; "proposal.txt: {bytes} bytes")?;
+    let text = open_file(rt, "proposal.txt")?;
     let mut proposal = Proposal::empty(rt.alloc());
     match proposal_file::read(rt.alloc(), protocol, &text, &mut proposal) {
         Ok(()) => print_proposal(rt, &proposal),

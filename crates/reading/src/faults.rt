@@ -37,7 +37,7 @@ impl Fault for ReadFault {
     ghost from_file_fault = { Prim.search rules };
 }
 
-// Why the file that has this line is not read.
+// Why the file that has this line is not read. A match, since want of memory goes over as it is.
 pub fn in_file(line: usize, why: TakeFault) -> ReadFault
     ensures the_fault_with_its_line { result ≡ file_fault_of line why }
 {

@@ -34,7 +34,7 @@ impl Named for Rule {
     }
 }
 
-// The guard of a new rule, or the fault of its line.
+// The guard of a new rule, or the fault of its line. Its name and its number come apart, as the line has them.
 #[tactic(auto, using(crate::proofs::RuleLaws::same_place))]
 fn test_rule(
     rules: &[Rule],

@@ -14,11 +14,19 @@ use std::io::ErrorKind;
 use std::{fs, io};
 
 // The bytes of a file. One that is missing counts as empty.
-pub fn read_or_empty(rt: &HostRuntime, path: &str) -> io::Result<Vec<u8>> {
+fn read_or_empty(rt: &HostRuntime, path: &str) -> io::Result<Vec<u8>> {
     match fs::read(rt, path) {
         Err(error) if error.kind() == ErrorKind::NotFound => Ok(Vec::new(rt.alloc())),
         answer => answer,
     }
+}
+
+// The bytes of a file, of which it prints how many they are.
+pub fn open_file(rt: &HostRuntime, path: &str) -> io::Result<Vec<u8>> {
+    let text = read_or_empty(rt, path)?;
+    let bytes = text.len();
+    println!(rt; "{path}: {bytes} bytes")?;
+    Ok(text)
 }
 
 // The text of a name, which is made of letters, digits and a few signs. Bytes that are no text give none.
@@ -56,9 +64,7 @@ fn print_protocol(rt: &HostRuntime, protocol: &Protocol) -> io::Result<()> {
 pub fn read_protocol(rt: &HostRuntime) -> io::Result<Option<Protocol>>
     ensures what_is_read_obeys_all_limits_and_sorts { IfOk result (λ read. IfSome read (λ protocol. Lawful (protocol_seen protocol))) }
 {
-    let text = read_or_empty(rt, "protocol.txt")?;
-    let bytes = text.len();
-    println!(rt; "protocol.txt: {bytes} bytes")?;
+    let text = open_file(rt, "protocol.txt")?;
     let mut protocol = Protocol::empty(rt.alloc());
     match read(rt.alloc(), &text, &mut protocol) {
         Ok(()) => {

@@ -82,7 +82,8 @@ fn argument_column(form: Form<'_>, argument: u8) -> usize
     columns.get(argument as usize).copied().unwrap_or(0)
 }
 
-// The sort of a term, with its fault at the column of the argument. A match, so that each fault's column is one case.
+// The sort of a term, with its fault at the column of the argument. A match, since
+// each fault has a column to be found and the sort goes over as it is.
 fn sort_in_line(
     declarations: Declarations<'_>,
     sorts: &[Sort],

@@ -59,6 +59,7 @@ pub struct Declarations<'a> {
 pub enum TermFault {
     // A number of nothing that is declared, or of no earlier term.
     NoSuch(u8),
+    // A term of the wrong sort.
     WrongSort(u8),
 }
 

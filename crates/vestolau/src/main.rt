@@ -6,7 +6,7 @@
 use account::{Account, survey};
 use keys::Key;
 use line::lines::File;
-use showing::{read_or_empty, read_protocol};
+use showing::{open_file, read_protocol};
 use std::io;
 
 // The keys of a proposal, in the order of its lines.
@@ -26,8 +26,6 @@ fn print_account(rt: &HostRuntime, account: &Account) -> io::Result<()> {
 
 fn main(rt: HostRuntime) -> io::Result<()> {
     let _protocol = read_protocol(&rt)?;
-    let text = read_or_empty(&rt, "proposal.txt")?;
-    let bytes = text.len();
-    println!(rt; "proposal.txt: {bytes} bytes")?;
+    let text = open_file(&rt, "proposal.txt")?;
     print_account(&rt, &survey(File::Proposal, &text))
 }

@@ -35,7 +35,7 @@ pub struct Number {
 }
 
 // A place in the words of a line: `before` bytes of the line stand in front of `text`, and the next word begins
-// behind the first `at` bytes of `text`.
+// behind the first `at` bytes of `text`. A copy goes on by itself from there.
 #[derive(Clone, Copy)]
 pub struct Words<'a> {
     text: &'a [u8],
@@ -51,7 +51,7 @@ fn word_run(text: &[u8]) -> usize
     text.iter().take_while(|&&byte| byte != b' ').count()
 }
 
-// Whether the bytes are those of this word.
+// Whether the bytes are those of this word. Beside `==`, since it promises that they are compared byte by byte.
 pub fn is_word(bytes: &[u8], word: &[u8]) -> bool
     ensures whether_they_are_the_same { result ≡ bytes_eq bytes.now word.now }
 {
@@ -228,6 +228,7 @@ impl<'a> Words<'a> {
     pub fn only_names(mut self) -> Result<(), LineFault>
         ensures all_are_names_or_the_first_that_is_none { result ≡ all_names (words_left (place self.entry)) }
     {
+        // A match, since the word that is found is the fault.
         match self.find(|word| !is_name(word.bytes)) {
             Some(word) => Err(bad_word(word.column)),
             None => Ok(()),
