@@ -505,6 +505,41 @@ const MANY: [Case; 11] = [
     ),
 ];
 
+// A variable that is set twice, not one below the other, and in the second rule; states past 2^40 by a type of three values; and
+// faults of the last line.
+const LATE: [Case; 5] = [
+    Case(
+        b"protocol=p\ntype=S a b\nvar=x S\nvar=y S\nterm=true\nterm=val S a\ninit=0\nrule=r 0\nset=x 1\nset=y 1\nset=x 1\nend=protocol\n",
+        12,
+        11,
+        5,
+    ),
+    Case(
+        b"protocol=p\ntype=S a b\nvar=x S\nvar=y S\nterm=true\nterm=val S a\ninit=0\nrule=r 0\nset=x 1\nrule=s 0\nset=y 1\nset=y 1\nend=protocol\n",
+        12,
+        12,
+        5,
+    ),
+    Case(
+        b"protocol=p\ntype=S a b c d e f g h i j k l m n o p\ntype=T a b c\nvar=v0 S\nvar=v1 S\nvar=v2 S\nvar=v3 S\nvar=v4 S\nvar=v5 S\nvar=v6 S\nvar=v7 S\nvar=v8 S\nvar=w0 T\nvar=w1 T\nvar=w2 T\nterm=true\ninit=0\nend=protocol\n",
+        11,
+        15,
+        1,
+    ),
+    Case(
+        b"protocol=p\ntype=S a b\nvar=x S\nterm=true\ninit=0\nend=proposal\n",
+        5,
+        6,
+        5,
+    ),
+    Case(
+        b"protocol=p\ntype=S a b\nvar=x S\nterm=true\ninit=0\nend=protocol x\n",
+        5,
+        6,
+        14,
+    ),
+];
+
 #[test]
 fn bytes_and_line_feeds(rt: HostRuntime) {
     let heap = rt.alloc();
@@ -530,6 +565,7 @@ fn behind_the_end(rt: HostRuntime) -> Result<(), Fail> {
 #[test]
 fn protocol_files(rt: HostRuntime) {
     let heap = rt.alloc();
+    run(&rt, &LATE, |bytes| protocol_refusal(heap, bytes));
     run(&rt, &FILES, |bytes| protocol_refusal(heap, bytes));
 }
 
@@ -557,6 +593,10 @@ fn long_files(rt: HostRuntime) -> Result<(), Fail> {
     assert_eq!(rt; protocol_refusal(heap, &most), (2, 1, 1));
     let more = repeated(heap, b"\0", 65537, b"")?;
     assert_eq!(rt; protocol_refusal(heap, &more), (1, 0, 0));
+    let lines = repeated(heap, b"\n", 65537, b"")?;
+    assert_eq!(rt; protocol_refusal(heap, &lines), (1, 0, 0));
+    let longer = repeated(heap, SMALLEST, 1, &more)?;
+    assert_eq!(rt; protocol_refusal(heap, &longer), (1, 0, 0));
     let lines = repeated(heap, b"\n", 65536, b"")?;
     assert_eq!(rt; protocol_refusal(heap, &lines), (4, 1, 1));
     Ok(())
