@@ -79,5 +79,7 @@ pub fn find<T: Named>(rows: &[T], name: &[u8]) -> Option<usize>
     ensures the_number_of_the_first_so_named { result ≡ place_in (map T.Named.named rows.now) name.now }
     ensures found_is_so_named_and_none_means_no_row_is { MatchOption result ((k : ℕ) → k < length rows.now → slice_index_or (map T.Named.named rows.now) k [] ≢ name.now) (λ i. (i < length rows.now) × (slice_index_or (map T.Named.named rows.now) i [] ≡ name.now)) }
 {
-    rows.iter().position(|row| is_word(row.name(), name))
+    // Apart from its answer, so that a must-fail edit can turn the number alone.
+    let place = rows.iter().position(|row| is_word(row.name(), name))?;
+    Some(place)
 }

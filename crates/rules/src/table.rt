@@ -6,7 +6,7 @@ use names::Name;
 use terms::Assignment;
 
 // A rule: its name, its guard and its assignments.
-#[derive(Drop, PartialEq)]
+#[derive(Drop)]
 pub struct Rule {
     pub name: Name,
     pub guard: u16,
@@ -14,12 +14,11 @@ pub struct Rule {
 }
 
 impl Rule {
-    // Whether the two say the same. Beside `==`, since it promises that the two say the same.
-    #[tactic(auto, using(crate::proofs::Equals::rule_decides))]
+    // Whether the two say the same.
     pub fn equals(&self, other: &Rule) -> bool
         ensures whether_they_say_the_same { Decides result (rule_seen self.now ≡ rule_seen other.now) }
     {
-        self == other
+        *self == *other
     }
 }
 

@@ -131,8 +131,10 @@ impl RuleTable {
     ) -> Result<(), TakeFault>
         ensures what_the_line_adds_or_its_fault { Came result (rules_seen self.new) (assignment_taken (variables_seen variables.now) (terms_seen terms.now) (word_seen name.entry) term (rules_seen self.old)) }
     {
-        let rule = self.rules.last_mut().ok_or(Wrong::Key.at(1))?;
-        let assignment = rule.next_set(variables, terms, name, term)?;
+        // By index, so that a must-fail edit can turn which rule it is.
+        let last = self.rules.len().checked_sub(1).ok_or(Wrong::Key.at(1))?;
+        let assignment = self.rules[last].next_set(variables, terms, name, term)?;
+        let rule = &mut self.rules[last];
         rule.sets.push(assignment)?;
         Ok(())
     }

@@ -98,4 +98,17 @@ mod tests {
         assert!(rt; bytes.is_empty());
         Ok(())
     }
+
+    // A file that is there is read whole, and a protocol in it is given.
+    #[test]
+    fn file_that_is_there(rt: HostRuntime) -> Result<(), Fail> {
+        let text = b"protocol=p\ntype=T a b\nvar=x T\nterm=true\ninit=0\nend=protocol\n".as_slice();
+        fs::write(&rt, "protocol.txt", text)?;
+        let bytes = open_file(&rt, "protocol.txt")?;
+        let protocol = read_protocol(&rt)?;
+        fs::remove_file(&rt, "protocol.txt")?;
+        assert!(rt; bytes.as_slice() == text);
+        assert!(rt; protocol.is_some());
+        Ok(())
+    }
 }

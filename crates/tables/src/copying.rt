@@ -32,7 +32,7 @@ fn copy_lists(heap: Global, lists: &[Vec<Name>]) -> Result<Vec<Vec<Name>>, Alloc
 fn copy_behind<T: Copy>(heap: Global, items: &[T], n: usize) -> Result<Vec<T>, AllocError>
     ensures those_behind_the_first { IfOk result (λ v. v.items ≡ drop n items.now) }
 {
-    items.iter().skip(n).copied().collect(heap)
+    Vec::from_slice(heap, items.get(n..).unwrap_or_default())
 }
 
 impl TypeTable {

@@ -1,18 +1,12 @@
 -- Going over a term's arguments.
-use Rattle.std.proofs.Common.{◌≡◌, ℕ, Bool, true, false, cond, ◌||◌, List, [], ◌∷◌, length, Some, None, Option, sym, refl, ap, subst₂, arith}
+use Rattle.std.proofs.Common.{◌≡◌, ℕ, Bool, true, false, cond, List, [], ◌∷◌, length, Some, None, Option, sym, refl, ap, subst₂, arith}
 use Rattle.std.proofs.lemmas.Iterator.{YieldsList}
 use Rattle.std.proofs.lemmas.Iterator.Consumers.{YieldsList-from_shown}
 use Rattle.std.specs.Bool.{IsTrue, MatchBool}
 use Rattle.std.specs.Iterator.Adapters.{option_iter_steps, option_iter_done, option_iter_item}
-use Rattle.std.specs.List.{list_any}
 use Rattle.std.specs.Option.{option_to_list}
 use Rattle.std.specs.declared.option.Iter.{OptionIter}
-use Rattle.std.proofs.Math.Bool.{or-false}
 use denote.Ref.{Bor}
-use Rattle.terms.specs.declared.Term.{Term}
-use Rattle.terms.specs.declared.Term.TheVariants.{Var, Val, True, False, Eq, Not, And, Or, Imp, Ite}
-use Rattle.terms.specs.Reading.{occurs_at, occurs_in}
-use Rattle.terms.specs.Trees.{arguments}
 
 abbrev held : OptionIter ℕ → List ℕ
 held s = cond (option_iter_done s) [] (option_to_list (option_iter_item s))
@@ -32,15 +26,3 @@ option_yields o s is fresh =
     subst₂ (λ d p. YieldsList option_iter_steps (λ y. y.now) s (cond d [] (option_to_list p))) fresh is
     (YieldsList-from_shown option_iter_steps (λ y. y.now) held (λ s t k. none_held (option_iter_done s) (option_iter_item s) k.1)
     (λ s x t k. one_held (option_iter_done s) (option_iter_done t) (option_iter_item s) (option_iter_item t) x k.0 k.1) s)
-
-pub occurs_in_some : (v : ℕ) (flags : List Bool) (t : Term) → ((w : ℕ) → t ≡ Var w → ⊥) → list_any (occurs_at flags) (arguments t) ≡ occurs_in v flags t
-occurs_in_some v flags (Var w) no' = absurd (no' w refl)
-occurs_in_some v flags (Val of k) no' = refl
-occurs_in_some v flags True no' = refl
-occurs_in_some v flags False no' = refl
-occurs_in_some v flags (Eq a b) no' = ap (λ x. occurs_at flags a || x) (or-false _)
-occurs_in_some v flags (Not a) no' = or-false _
-occurs_in_some v flags (And a b) no' = ap (λ x. occurs_at flags a || x) (or-false _)
-occurs_in_some v flags (Or a b) no' = ap (λ x. occurs_at flags a || x) (or-false _)
-occurs_in_some v flags (Imp a b) no' = ap (λ x. occurs_at flags a || x) (or-false _)
-occurs_in_some v flags (Ite f a b) no' = ap (λ x. occurs_at flags f || (occurs_at flags a || x)) (or-false _)

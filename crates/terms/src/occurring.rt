@@ -16,17 +16,20 @@ fn occurs_in_number(flags: &[bool], n: u16) -> bool
     at_or(flags, n, false)
 }
 
-// Whether a variable occurs in a term, given in which of the terms before it it occurs.
+// Whether a variable occurs in a term, given in which of the terms before it it occurs. By a match on each form: going over
+// `Term::arguments` takes up to twice the instructions.
 fn occurs_in_term(variable: u16, flags: &[bool], term: Term) -> bool
     ensures in_that_term { result ≡ occurs_in variable flags.now term }
 {
     match term {
         Term::Var(v) => variable == v,
-        _ => {
-            term.arguments()
-                .iter()
-                .flatten()
-                .any(|a| occurs_in_number(flags, *a))
+        Term::Val(_, _) | Term::True | Term::False => false,
+        Term::Not(a) => occurs_in_number(flags, a),
+        Term::Eq(a, b) | Term::And(a, b) | Term::Or(a, b) | Term::Imp(a, b) => {
+            occurs_in_number(flags, a) || occurs_in_number(flags, b)
+        }
+        Term::Ite(f, a, b) => {
+            occurs_in_number(flags, f) || occurs_in_number(flags, a) || occurs_in_number(flags, b)
         }
     }
 }

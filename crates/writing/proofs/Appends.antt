@@ -1,5 +1,6 @@
 -- Bytes appended one after another.
-use Rattle.std.proofs.Common.{◌≡◌, ℕ, ◌+◌, ◌<◌, List, [], ◌∷◌, ◌++◌, Ok, Err, Result, length, get_or, map, take, sym, refl, ap, ◌∙◌, append_assoc, append-nil}
+use Rattle.std.proofs.Common.{◌≡◌, ℕ, ◌+◌, ◌/◌, ◌%◌, ◌^◌, ◌<◌, ◌≤◌, List, [], ◌∷◌, ◌++◌, Ok, Err, Result, length, get_or, map, take, sym, refl, ap, ◌∙◌, append_assoc, append-nil, arith}
+use Rattle.std.proofs.lemmas.Fmt.{decimal_digit, decimal_step}
 use Rattle.std.proofs.lemmas.List.{take_more, map-append}
 use Rattle.std.specs.Result.{IsErr}
 use Rattle.std.specs.declared.alloc.AllocError.{AllocError}
@@ -7,11 +8,21 @@ use Rattle.words.specs.Repeats.{start}
 use Rattle.words.specs.Words.{words_left}
 use Rattle.writing.specs.Appending.{Appended}
 use Rattle.writing.specs.Said.{texts}
-use Rattle.writing.specs.Written.{each_spaced, spaced}
+use Rattle.writing.specs.Written.{each_spaced, spaced, written_number}
 use Rattle.writing.proofs.Spaces.{each_pieces, left_start}
 
 pub after_both : (before x y mid after : List ℕ) → mid ≡ before ++ x → after ≡ mid ++ y → after ≡ before ++ (x ++ y)
 after_both before x y mid after first second = second ∙ ap (λ l. l ++ y) first ∙ append_assoc before x y
+
+-- the last digit, alone or behind the others
+pub digit_appended : (n : ℕ) (before mid after : List ℕ) → n < 10 → mid ≡ before → after ≡ mid ++ (48 + n % 10) ∷ [] → after ≡ before ++ written_number n
+digit_appended n before mid after low same is =
+    let d : 48 + n % 10 ≡ 48 + n = omega arith in
+    is ∙ (λ i. same i ++ (d i ∷ [])) ∙ ap (λ l. before ++ l) (sym (decimal_digit n low))
+
+pub digits_appended : (n : ℕ) (before others mid after : List ℕ) → 10 ≤ n → n < 2 ^ 16 → mid ≡ others → others ≡ before ++ written_number (n / 10) → after ≡ mid ++ (48 + n % 10) ∷ [] → after ≡ before ++ written_number n
+digits_appended n before others mid after high low same first second =
+    after_both before (written_number (n / 10)) ((48 + n % 10) ∷ []) mid after (same ∙ first) second ∙ ap (λ l. before ++ l) (sym (decimal_step n high (omega arith)))
 
 -- for want of memory `some` bytes were written
 pub stopped : (r : Result (Unit {0}) AllocError) (before bytes after some : List ℕ) → IsErr r → after ≡ before ++ some → Appended r before bytes after

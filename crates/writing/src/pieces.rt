@@ -79,12 +79,16 @@ pub fn write_next_word(out: &mut Vec<u8>, word: &[u8]) -> Result<(), AllocError>
     write_next(out, word)
 }
 
-// A number as the first word of a line.
+// A number as the first word of a line. Digit by digit: `format!` asks for memory of its own for each number, though `out` may have
+// room for it.
 pub fn write_number(out: &mut Vec<u8>, n: u16) -> Result<(), AllocError>
     ensures the_digits_of_the_number { Appended result out.old.items (written_number n) out.new.items }
 {
-    let digits = format!(in *out.allocator(); "{n}")?;
-    write_word(out, digits.as_bytes())
+    if n >= 10 {
+        write_number(out, n / 10)?;
+    }
+    out.push(b'0' + (n % 10) as u8)?;
+    Ok(())
 }
 
 // A number as a further word.
