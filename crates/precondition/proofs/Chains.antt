@@ -12,10 +12,6 @@ pub all_there_is : (count : ℕ) (sets : List Assignment) → list_all (λ a. lt
 all_there_is count [] = refl
 all_there_is count (a ∷ sets) = ap (λ b. ltb a.term count && b) (all_there_is count sets)
 
-pub all_below_is : (n : ℕ) (numbers : List ℕ) → list_all (λ a. ltb a n) numbers ≡ all_below n numbers
-all_below_is n [] = refl
-all_below_is n (a ∷ rest) = ap (λ b. ltb a n && b) (all_below_is n rest)
-
 pub formed_is : (n : ℕ) (terms : List Term) → list_all (λ p. all_below p.0 (arguments p.1)) (enumerate_from n terms) ≡ formed_from n terms
 formed_is n [] = refl
 formed_is n (t ∷ terms) = ap (λ b. all_below n (arguments t) && b) (formed_is (n + 1) terms ∙ ap (λ m. formed_from m terms) (add-one n))

@@ -9,11 +9,19 @@ use crate::search::{find, rename};
 use std::alloc::Global;
 use terms::{MOST_TERMS, Term};
 
-// Whether each argument of a term is below a number.
+// Whether each argument of a term is below a number. By a match on each form: going over `Term::arguments` takes up to twice the time
+// where a table is refused.
 fn has_arguments_below(term: Term, n: usize) -> bool
     ensures each_argument_is_below { result ≡ all_below n (arguments term) }
 {
-    term.arguments().iter().flatten().all(|a| (*a as usize) < n)
+    match term {
+        Term::Var(_) | Term::Val(_, _) | Term::True | Term::False => true,
+        Term::Not(a) => (a as usize) < n,
+        Term::Eq(a, b) | Term::And(a, b) | Term::Or(a, b) | Term::Imp(a, b) => {
+            (a as usize) < n && (b as usize) < n
+        }
+        Term::Ite(f, a, b) => (f as usize) < n && (a as usize) < n && (b as usize) < n,
+    }
 }
 
 // Whether each argument of each term is the number of an earlier one.

@@ -1,4 +1,3 @@
 pub mod Tables
 pub mod SortLaws
 pub mod Assigned
-pub mod Arguments
